@@ -1,0 +1,5 @@
+pub mod Kind
+pub mod Sums
+pub mod SizeKind
+pub mod RankedKind
+pub mod WrittenKind
