@@ -57,3 +57,22 @@ pub joined-one : (start was now : List ℕ) (n : ℕ) → n < 10 → was ≡ sta
 joined-one start was now n few before is =
     let same : n % 10 ≡ n = omega arith in
     is ∙ ap (λ t. joinedOn t ((48 + n % 10) ∷ [])) before ∙ ap (λ d. joinedOn start ((48 + d) ∷ [])) same ∙ ap (joinedOn start) (sym (decimal-digit n few))
+
+-- parts put on a line that held `was`, one after another, so that it holds `now`
+abbrev pub Puts : List ℕ → List (List ℕ) → List ℕ → Type 0
+Puts was [] now = now ≡ was
+Puts was (part ∷ parts) now = (next : List ℕ) × (next ≡ joinedOn was part) × Puts next parts now
+
+abbrev pub joined : List (List ℕ) → List ℕ
+joined [] = []
+joined (part ∷ parts) = part ++ joined parts
+
+puts-on : (text was now : List ℕ) (parts : List (List ℕ)) → was ≡ joinedOn [] text → Puts was parts now → now ≡ joinedOn [] (text ++ joined parts)
+puts-on text was now [] start puts = puts ∙ start ∙ ap (take 64) (sym (append-nil text))
+puts-on text was now (part ∷ parts) start (next, one, puts) =
+    let here : next ≡ joinedOn [] (text ++ part) = one ∙ ap (λ t. joinedOn t part) start ∙ joined-again [] text part in
+    puts-on (text ++ part) next now parts here puts ∙ ap (take 64) (append-assoc text part (joined parts))
+
+-- a new line holds the parts put on it, where it has room for them
+pub puts-all : (was now : List ℕ) (parts : List (List ℕ)) → was ≡ [] → Puts was parts now → length (joined parts) ≤ 64 → now ≡ joined parts
+puts-all was now parts new puts short = puts-on [] was now parts new puts ∙ take-all 64 (joined parts) short

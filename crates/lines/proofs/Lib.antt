@@ -1,2 +1,3 @@
-mod Joins
+pub mod Joins
 mod Digits
+mod Cuts

@@ -47,6 +47,14 @@ impl Line {
         self.push(b'0' + (n % 10) as u8);
     }
 
+    // The bytes on the line.
+    pub fn as_bytes(&self) -> &[u8]
+        ensures { λ r. ⌜ now r ≡ lineText (now (self .entry)) ⌝ }
+    {
+        let len = self.len;
+        &self.bytes[0..len]
+    }
+
     // Copies the line to the front of a buffer and answers its length; none, and nothing copied, where it is too long.
     pub fn copy_to(&self, buffer: &mut [u8]) -> Option<usize>
         ensures answer { λ r. ⌜ r ≡ fitted (lineText (now (self .entry))) (now (buffer .entry)) ⌝ }

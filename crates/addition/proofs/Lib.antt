@@ -1,0 +1,2 @@
+mod Progress
+mod TotalLine
