@@ -51,8 +51,8 @@ impl Line {
     pub fn as_bytes(&self) -> &[u8]
         ensures { λ r. ⌜ now r ≡ lineText (now (self .entry)) ⌝ }
     {
-        let len = self.len;
-        &self.bytes[0..len]
+        let end = self.len;
+        &self.bytes[0..end]
     }
 
     // Copies the line to the front of a buffer and answers its length; none, and nothing copied, where it is too long.
