@@ -1,6 +1,6 @@
 -- Adding up the first lines of a text.
 use mathlib.Core.Path.{_≡_, refl, sym, ap, subst, _∙_}
-use mathlib.Core.List.{List, [], _∷_, _++_}
+use mathlib.Core.List.{List, [], _∷_}
 use mathlib.Core.Logic.{inl, inr}
 use Prim.Native.Nat.{ℕ, _+_, _*_, _≤_, _<_}
 use native.Mathlib.Omega.{arith}
@@ -15,7 +15,6 @@ use Rattle.std.proofs.shelf.Sums.{sumBy-le, sumBy-more}
 use Rattle.std.proofs.shelf.Signed.{ints, clamps}
 use Rattle.lines.specs.Split.{linesOf}
 use Rattle.price.specs.Kind.{Between, PriceKind, Sound, flowLimit, nearest, reach}
-use Rattle.refusal.specs.declared.Refusal.{Refusal}
 use Rattle.refusal.specs.declared.Refusal.the-variants.{NoPlace, NotAPrice}
 use Rattle.addition.specs.Adding.{Adds, Priced, Refuses, Writes}
 

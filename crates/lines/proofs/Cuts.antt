@@ -1,6 +1,6 @@
 -- Where a text's first line ends.
-use mathlib.Core.Path.{_≡_, refl, ap, _∙_}
-use mathlib.Core.Bool.{true, false}
+use mathlib.Core.Path.{_≡_, ap, sym, _∙_}
+use mathlib.Core.Bool.{false}
 use mathlib.Core.List.{List, [], _∷_}
 use Prim.Native.Nat.{ℕ, zero, suc, _+_, _-_, _≤_, _<_}
 use native.Mathlib.Omega.{arith}
@@ -8,8 +8,8 @@ use native.Mathlib.Numerals.{add-one}
 use borrow.Author.Tests.{eq-eqb, ne-eqb}
 use lib.Dec.{eqb}
 use lib.ListN.{length, take, drop, getD}
-use Rattle.std.proofs.shelf.Lists.{drop-all, length-drop, take-rest}
-use Rattle.lines.specs.Split.{before, linesOf}
+use Rattle.std.proofs.shelf.Lists.{drop-all, length-drop, length-take-le, take-rest}
+use Rattle.lines.specs.Split.{FirstLine, before, linesOf}
 
 -- no line feed stands before i
 abbrev pub NoFeed : List ℕ → ℕ → Type 0
@@ -32,16 +32,20 @@ uncut (b ∷ c ∷ bs) some none =
     rw other (ap (before b) rest)
 
 -- the same, as the parts of a slice are read
-pub cut-at : (text : List ℕ) (i : ℕ) → i < length text → NoFeed text i → getD text i 0 ≡ 10
-    → (linesOf text ≡ take (i - 0) text ∷ linesOf (take (length text - (i + 1)) (drop (i + 1) text))) × (length (take (length text - (i + 1)) (drop (i + 1) text)) < length text)
+pub cut-at : (text : List ℕ) (i : ℕ) → i < length text → NoFeed text i → getD text i 0 ≡ 10 → FirstLine text (take (i - 0) text) (take (length text - (i + 1)) (drop (i + 1) text))
 cut-at text i short none here =
     let rest = take-rest text (i + 1) in
     let same : i - 0 ≡ i = omega arith in
+    let front : length (take i text) ≡ i = length-take-le i text (omega arith) in
     let size = length-drop (i + 1) text in
-    (rw (rest, same, add-one i) (cut text i short none here), rw rest (omega arith))
+    let lines : linesOf text ≡ take i text ∷ linesOf (drop (i + 1) text) = rw (add-one i) (cut text i short none here) in
+    let after : drop (i + 1) text ≡ drop (length (take i text) + 1) text = rw front in
+    let shorter : length (drop (i + 1) text) < length text = omega arith in
+    rw (rest, same) (record { lines = lines; after = after; shorter = shorter })
 
-pub uncut-at : (text : List ℕ) (i : ℕ) → 0 < length text → length text ≤ i → NoFeed text i
-    → (linesOf text ≡ text ∷ linesOf (take (length text - length text) (drop (length text) text))) × (length (take (length text - length text) (drop (length text) text)) < length text)
+pub uncut-at : (text : List ℕ) (i : ℕ) → 0 < length text → length text ≤ i → NoFeed text i → FirstLine text text (take (length text - length text) (drop (length text) text))
 uncut-at text i some end none =
-    let rest = take-rest text (length text) ∙ drop-all (length text) text (omega arith) in
-    (rw rest (uncut text some (λ k h. none k (omega arith))), rw rest (omega arith))
+    let rest : take (length text - length text) (drop (length text) text) ≡ [] = take-rest text (length text) ∙ drop-all (length text) text (omega arith) in
+    let lines : linesOf text ≡ text ∷ [] = uncut text some (λ k h. none k (omega arith)) in
+    let after : [] ≡ drop (length text + 1) text = sym (drop-all (length text + 1) text (omega arith)) in
+    rw rest (record { lines = lines; after = after; shorter = some })

@@ -1,5 +1,5 @@
 -- Sums of totals that are few and small stay within the reach.
-use mathlib.Core.Path.{_≡_, refl, sym, ap, _∙_}
+use mathlib.Core.Path.{_≡_, sym, ap, _∙_}
 use mathlib.Core.List.{List, [], _∷_, map}
 use Prim.Native.Nat.{ℕ, suc, _+_, _*_, _≤_, _<_}
 use native.Mathlib.Omega.{arith}
@@ -10,7 +10,7 @@ use Rattle.std.specs.shelf.Lists.{All}
 use Rattle.std.proofs.shelf.Lists.{at-drop-more}
 use Rattle.std.proofs.shelf.Signed.{ints, clamps}
 use Rattle.price.specs.Kind.{Between, PriceKind, flowLimit, nearest, reach}
-use Rattle.price.specs.Sums.{Modest, heldSum, sumOf, sumℤ}
+use Rattle.price.specs.Sums.{Modest, heldSum, sumOf}
 
 pub nearest-same : (n : ℕ) (z : ℤ) → Between n z → nearest n z ≡ z
 nearest-same n z b = omega (arith, ints, clamps)

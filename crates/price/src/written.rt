@@ -2,7 +2,7 @@ ghost use mathlib.Core.Path.{_≡_};
 ghost use mathlib.Core.Bool.{cond};
 ghost use Prim.Native.Nat.{_<_, _^_};
 ghost use Rattle.std.specs.Numbers.{Checked};
-ghost use Rattle.std.specs.Orderings.{Decides, When};
+ghost use Rattle.std.specs.Orderings.{Decides};
 ghost use Rattle.lines.specs.Texts.{joinedOn, lineText};
 ghost use Rattle.price.specs.Kind.{Between, flowLimit};
 ghost use Rattle.price.specs.WrittenKind.{PriceOf, digitsOf};

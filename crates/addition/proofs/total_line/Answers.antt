@@ -1,5 +1,4 @@
-use mathlib.Core.Path.{_≡_, refl}
-use lib.Dec.{eqb}
+use mathlib.Core.Path.{refl}
 use Rattle.lines.proofs.Joins.{Puts}
 use Rattle.lines.specs.Texts.{lineText}
 use Rattle.addition.proofs.TotalLine.{parts, whole-line}

@@ -1,5 +1,5 @@
 ghost use mathlib.Core.Path.{_≡_};
-ghost use mathlib.Core.List.{List, [], _∷_};
+ghost use mathlib.Core.List.{[], _∷_};
 ghost use Rattle.std.specs.Written.{decimal};
 ghost use Rattle.lines.specs.Buffers.{filled, fitted};
 ghost use Rattle.lines.specs.Texts.{joinedOn, lineText};

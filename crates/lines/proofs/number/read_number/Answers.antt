@@ -1,10 +1,7 @@
-use mathlib.Core.Path.{_≡_, ap, sym, _∙_}
-use mathlib.Core.Bool.{true}
-use Prim.Native.Nat.{_<_, _≤_, _+_, _*_, _^_, _-_}
+use mathlib.Core.Path.{sym, _∙_}
+use Prim.Native.Nat.{_<_}
 use native.Mathlib.Omega.{arith}
 use lib.ListN.{getD, length}
-use Rattle.std.specs.Text.{asciiDigit}
-use Rattle.std.specs.declared.option.Option.{Option}
 use Rattle.std.proofs.shelf.Lists.{at-drop-all}
 use Rattle.std.proofs.shelf.Ways.{tells}
 use Rattle.lines.proofs.Digits.{digit-bound, digit-more, digit-none, digit-value, digits-fit, digitsAfter, number-by-digits}

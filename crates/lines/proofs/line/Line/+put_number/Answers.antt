@@ -1,5 +1,4 @@
 use mathlib.Core.Path.{ap, _∙_}
-use native.Mathlib.Omega.{arith}
 use Rattle.lines.specs.Texts.{lineText}
 use Rattle.lines.proofs.Joins.{joined-digit, joined-one}
 use Rattle.lines.proofs.line.Line.+put_number.Needs as need
