@@ -8,31 +8,39 @@ use std::cmp::Ordering;
 
 // A kind of prices (capacities). Each of its totals means one whole number within the kind's reach.
 pub trait Price: Copy {
+    // What the totals mean, the largest price, and which totals are named and which are prices.
     ghost kind: { PriceKind Self };
 
+    // Meanings lie within the reach, and those of prices between 0 and the largest.
     law sound: { Sound kind };
 
+    // The price that means 0.
     fn zero() -> Self
         ensures means { λ r. ⌜ kind .means r ≡ pos 0 ⌝ }
         ensures price { λ r. ⌜ kind .price r ≡ true ⌝ }
         ensures named { λ r. ⌜ kind .named r ≡ true ⌝ };
 
+    // The largest price.
     fn largest() -> Self
         ensures means { λ r. ⌜ kind .means r ≡ pos (kind .largest) ⌝ }
         ensures price { λ r. ⌜ kind .price r ≡ true ⌝ }
         ensures named { λ r. ⌜ kind .named r ≡ true ⌝ };
 
+    // The sum, or the end of the reach that is nearer to it.
     fn plus(self, other: Self) -> Self
         ensures means { λ r. ⌜ kind .means r ≡ nearest (reach kind) (kind .means self +ℤ kind .means other) ⌝ }
         ensures named { λ r. ⌜ kind .named r ≡ true ⌝ };
 
+    // The difference, or the end of the reach that is nearer to it.
     fn minus(self, other: Self) -> Self
         ensures means { λ r. ⌜ kind .means r ≡ nearest (reach kind) (kind .means self -ℤ kind .means other) ⌝ }
         ensures named { λ r. ⌜ kind .named r ≡ true ⌝ };
 
+    // Less, equal or greater, as the meanings are.
     fn compare(self, other: Self) -> Ordering
         ensures { λ r. ⌜ Compared r (kind .means self <ℤ kind .means other) (Same kind self other) (kind .means other <ℤ kind .means self) ⌝ };
 
+    // Whether a total is a price of the kind.
     fn is_price(self) -> bool
         ensures { λ r. ⌜ r ≡ kind .price self ⌝ };
 }

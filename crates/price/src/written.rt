@@ -11,6 +11,7 @@ use lines::line::Line;
 
 // A kind whose prices are read and written as whole numbers of at most 15 digits.
 pub trait Written: Price {
+    // Prices have at most 15 digits.
     law short: { Self·Price .kind .largest < 10 ^ 15 };
 
     // The whole number that a total within the flow limit means; none beyond the limit.
