@@ -1,8 +1,8 @@
 // Adds up prices of the size kind, one to a line, from standard input to standard output.
 use addition::answer_text;
-use price::size::Size;
-use price::size::SizePrice;
-use price::size::SizeWritten;
+use kinds::size::Size;
+use kinds::size::SizePrice;
+use kinds::size::SizeWritten;
 use std::error::AnyError;
 use std::io::Read;
 use std::io::Write;

@@ -1,10 +1,10 @@
 use addition::answer_text;
-use price::ranked::Ranked;
-use price::ranked::RankedPrice;
-use price::ranked::RankedWritten;
-use price::size::Size;
-use price::size::SizePrice;
-use price::size::SizeWritten;
+use kinds::ranked::Ranked;
+use kinds::ranked::RankedPrice;
+use kinds::ranked::RankedWritten;
+use kinds::size::Size;
+use kinds::size::SizePrice;
+use kinds::size::SizeWritten;
 use std::test::*;
 
 #[test]

@@ -1,14 +1,14 @@
+use kinds::ranked::Ranked;
+use kinds::ranked::RankedPrice;
+use kinds::ranked::RankedWritten;
+use kinds::size::Size;
+use kinds::size::SizePrice;
+use kinds::size::SizeWritten;
 use lines::line::Line;
 use price::kind::Price;
 use price::kind::flow_limit;
 use price::kind::is_same;
 use price::kind::is_within_flow_limit;
-use price::ranked::Ranked;
-use price::ranked::RankedPrice;
-use price::ranked::RankedWritten;
-use price::size::Size;
-use price::size::SizePrice;
-use price::size::SizeWritten;
 use price::written::Written;
 use std::test::*;
 

@@ -6,8 +6,8 @@ use lib.IntN.{ℤ, pos, negℤ}
 use lib.Signed.{leZ}
 use Rattle.std.specs.declared.option.Option.{Option}
 use Rattle.std.specs.declared.option.Option.the-variants.{None, Some}
 use Rattle.price.specs.Kind.{PriceKind, reachOf}
-use Rattle.price.specs.declared.size.Size.{Size}
+use Rattle.kinds.specs.declared.size.Size.{Size}
 
 abbrev pub sizeLargest : ℕ
 sizeLargest = 4294967295

@@ -1,6 +1,6 @@
 use native.Mathlib.Omega.{arith}
 use Rattle.std.proofs.shelf.Signed.{ints, clamps}
-use Rattle.price.proofs.size.SizePrice.plus.Needs as need
+use Rattle.kinds.proofs.size.SizePrice.minus.Needs as need
 
 pub returns : need.returns
 returns c = record { means = omega (arith, ints, clamps); named = c .held .ensures .named }

@@ -3,11 +3,11 @@ ghost use mathlib.Core.Bool.{true};
 ghost use Prim.Native.Nat.{_^_, _<_};
 ghost use lib.IntN.{pos};
 ghost use lib.Signed.{_<ℤ_};
 ghost use Rattle.price.specs.Kind.{Between, Same, nearest, reachOf};
-ghost use Rattle.price.specs.RankedKind.{RanksFirst, asOne, rankedKind, rankedLargest, rankedMeans, rankedNamed, rankedOfWhole};
+ghost use Rattle.kinds.specs.RankedKind.{RanksFirst, asOne, rankedKind, rankedLargest, rankedMeans, rankedNamed, rankedOfWhole};
 ghost use Rattle.price.specs.WrittenKind.{PriceOf};
-use super::kind::Price;
-use super::written::Written;
+use price::kind::Price;
+use price::written::Written;
 use std::cmp::Ordering;
 
 // A rank (how hard a picture is to open), and a number of MiB that counts where ranks are equal.

@@ -10,9 +10,9 @@ use lib.ListN.{length}
 use Rattle.std.specs.shelf.Lists.{All, sumBy}
 use Rattle.std.specs.declared.option.Option.{Option}
 use Rattle.std.specs.declared.option.Option.the-variants.{None, Some}
 use Rattle.price.specs.Kind.{PriceKind, reachOf}
 use Rattle.price.specs.Sums.{sumOf, sumℤ}
-use Rattle.price.specs.declared.ranked.Ranked.{Ranked}
+use Rattle.kinds.specs.declared.ranked.Ranked.{Ranked}
 
 -- a rank and a size in one number
 abbrev pub asOne : ℤ → ℕ → ℤ

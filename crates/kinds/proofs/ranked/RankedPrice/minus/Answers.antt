@@ -5,9 +5,9 @@ use mir.Syntax.{w32}
 use mir.Val.{SFits}
 use borrow.Author.Needs.{needs}
 use Rattle.std.proofs.shelf.Signed.{ints, toZ-ofZ}
 use Rattle.price.specs.Kind.{nearest, reachOf}
-use Rattle.price.specs.RankedKind.{asOne, rankedLargest, rankedMeans}
-use Rattle.price.proofs.ranked.RankedPrice.minus.Needs as need
+use Rattle.kinds.specs.RankedKind.{asOne, rankedLargest, rankedMeans}
+use Rattle.kinds.proofs.ranked.RankedPrice.minus.Needs as need
 
 pub returns : need.returns
 returns c =

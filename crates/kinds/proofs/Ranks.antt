@@ -14,9 +14,9 @@ use Rattle.std.specs.Orderings.{Ranked as Compared, thenBy}
 use Rattle.std.specs.declared.cmp.Ordering.{Ordering}
 use Rattle.std.specs.declared.cmp.Ordering.the-variants.{Less, Equal, Greater}
 use Rattle.std.proofs.shelf.Signed.{ints}
-use Rattle.price.specs.RankedKind.{RanksFirst, asOne, rankedKind, rankedMeans, rankedPrice, ranks, sizes}
+use Rattle.kinds.specs.RankedKind.{RanksFirst, asOne, rankedKind, rankedMeans, rankedPrice, ranks, sizes}
 use Rattle.price.specs.Sums.{sumOf}
-use Rattle.price.specs.declared.ranked.Ranked.{Ranked}
+use Rattle.kinds.specs.declared.ranked.Ranked.{Ranked}
 
 pub compared : (a b : ℤ) (m n : ℕ) (x y : ℤ) (o p : Ordering) → m < 2 ^ 44 → n < 2 ^ 44 → asOne a m ≡ x → asOne b n ≡ y
     → Compared o (a <ℤ b) (a ≡ b) (b <ℤ a) → Compared p (m < n) (m ≡ n) (n < m)

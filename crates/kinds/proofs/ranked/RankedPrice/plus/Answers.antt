@@ -2,9 +2,9 @@ use mathlib.Core.Path.{_≡_, ap, _∙_}
 use native.Mathlib.Omega.{arith}
 use lib.IntN.{_+ℤ_}
 use Rattle.std.proofs.shelf.Signed.{ints}
 use Rattle.price.specs.Kind.{nearest, reachOf}
-use Rattle.price.specs.RankedKind.{asOne, rankedLargest, rankedMeans}
-use Rattle.price.proofs.ranked.RankedPrice.plus.Needs as need
+use Rattle.kinds.specs.RankedKind.{asOne, rankedLargest, rankedMeans}
+use Rattle.kinds.proofs.ranked.RankedPrice.plus.Needs as need
 
 pub returns : need.returns
 returns c =

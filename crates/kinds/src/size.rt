@@ -1,10 +1,10 @@
 ghost use mathlib.Core.Path.{_≡_};
 ghost use mathlib.Core.Bool.{true};
 ghost use Rattle.price.specs.Kind.{Between, nearest, reachOf};
-ghost use Rattle.price.specs.SizeKind.{sizeKind, sizeLargest, sizeMeans, sizeNamed, sizeOfWhole};
+ghost use Rattle.kinds.specs.SizeKind.{sizeKind, sizeLargest, sizeMeans, sizeNamed, sizeOfWhole};
 ghost use Rattle.price.specs.WrittenKind.{PriceOf};
-use super::kind::Price;
-use super::written::Written;
+use price::kind::Price;
+use price::written::Written;
 use std::cmp::Ordering;
 
 // A number of MiB.

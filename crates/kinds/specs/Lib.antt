@@ -1,0 +1,2 @@
+pub mod SizeKind
+pub mod RankedKind

@@ -1,0 +1,2 @@
+pub mod ranked;
+pub mod size;
