@@ -7,6 +7,7 @@ ghost use Rattle.price.specs.Kind.{Between, Same, nearest, reachOf};
 ghost use Rattle.kinds.specs.RankedKind.{RanksFirst, asOne, rankedKind, rankedLargest, rankedMeans, rankedNamed, rankedOfWhole};
 ghost use Rattle.price.specs.WrittenKind.{PriceOf};
 use price::kind::Price;
+use price::kind::is_within_flow_limit;
 use price::written::Written;
 use std::cmp::Ordering;
 
@@ -30,12 +31,6 @@ const BOTTOM: Ranked = Ranked {
     rank: -251_662_336,
     size: 16_777_216,
 };
-
-// 4,096 times the largest price.
-const FLOW_LIMIT: i64 = 1_080_881_502_754_959_360;
-
-// How far from 0 the rank of a number within that lies at most.
-const RANKS: i32 = 61_441;
 
 // The same number with its size below 2^44: what is more is carried into the rank.
 fn carried(rank: i32, size: u64) -> Ranked
@@ -142,16 +137,11 @@ pub fn rank_less_five() -> Ranked
 
 pub impl Written for Ranked as RankedWritten {
     fn whole(self) -> Option<i64> {
-        let t = read(self);
-        if t.rank < -RANKS || t.rank > RANKS {
+        if !is_within_flow_limit(self) {
             return None;
         }
-        let n = t.rank as i64 * SIZES as i64 + t.size as i64;
-        if -FLOW_LIMIT <= n && n <= FLOW_LIMIT {
-            Some(n)
-        } else {
-            None
-        }
+        let t = read(self);
+        Some(t.rank as i64 * SIZES as i64 + t.size as i64)
     }
 
     // The quotient of n by 2^44 as rank and the remainder as size, where that is a price.

@@ -4,6 +4,7 @@ ghost use Rattle.price.specs.Kind.{Between, nearest, reachOf};
 ghost use Rattle.kinds.specs.SizeKind.{sizeKind, sizeLargest, sizeMeans, sizeNamed, sizeOfWhole};
 ghost use Rattle.price.specs.WrittenKind.{PriceOf};
 use price::kind::Price;
+use price::kind::is_within_flow_limit;
 use price::written::Written;
 use std::cmp::Ordering;
 
@@ -17,9 +18,6 @@ const LARGEST: i64 = 4_294_967_295;
 
 // 2^24 times the largest price.
 const REACH: i64 = 72_057_594_021_150_720;
-
-// 4,096 times the largest price.
-const FLOW_LIMIT: i64 = 17_592_186_040_320;
 
 // The MiB that a size is read as.
 fn read(s: Size) -> i64
@@ -73,9 +71,8 @@ pub impl Price for Size as SizePrice {
 
 pub impl Written for Size as SizeWritten {
     fn whole(self) -> Option<i64> {
-        let mib = read(self);
-        if -FLOW_LIMIT <= mib && mib <= FLOW_LIMIT {
-            Some(mib)
+        if is_within_flow_limit(self) {
+            Some(read(self))
         } else {
             None
         }
