@@ -1,0 +1,11 @@
+pub mod Walks
+pub mod Crossings
+pub mod Arcs
+pub mod Sums
+pub mod Reach
+pub mod Distance
+pub mod Moves
+pub mod Blocked
+pub mod Value
+pub mod Closed
+pub mod Heights

@@ -1,0 +1,89 @@
+-- Ways (walks from source to sink), borders (s-t cuts), and how ways cross them.
+use mathlib.Core.Path.{_≡_}
+use mathlib.Core.List.{List, [], _∷_}
+use mathlib.Core.Bool.{Bool, true, false, not, _&&_, _||_, cond}
+use Prim.Native.Nat.{ℕ, suc, _+_, _≤_, _<_}
+use lib.Dec.{ltb}
+use lib.IntN.{ℤ}
+use lib.Signed.{_≤ℤ_}
+use Rattle.network.specs.Chart.{Chart, Step}
+use Rattle.network.specs.Walk.{Map, Walk, met, In}
+use Rattle.network.specs.Sum.{sumOver, howMany}
+
+-- every feed can be passed from its start to its end
+abbrev pub feedsForward : Chart → Map ℕ
+feedsForward C = record { from = C .from; to = C .to; passable = λ k. ltb k (C .count) }
+
+-- a way: feeds that lead from source to sink
+abbrev pub Way : Chart → List ℕ → Type 0
+Way C w = Walk (feedsForward C) (C .source) w (C .sink)
+
+-- some way meets step v
+abbrev pub OnWay : Chart → ℕ → Type 0
+OnWay C v = (w : List ℕ) × Way C w × In v (met (feedsForward C) (C .source) w)
+
+-- no step is idle
+abbrev pub AllOnWays : Chart → Type 0
+AllOnWays C = (v : ℕ) → Step C v → OnWay C v
+
+-- a border: `early v` where step v is early, else it is late
+abbrev pub Border : Chart → (ℕ → Bool) → Type 0
+Border C early = (early (C .source) ≡ true) × (early (C .sink) ≡ false)
+
+-- from early to late: the picture is stored (forward arc of the cut)
+abbrev pub kept : Chart → (ℕ → Bool) → ℕ → Bool
+kept C early k = early (C .from k) && not (early (C .to k))
+
+-- from late to early (backward arc of the cut)
+abbrev pub runsBack : Chart → (ℕ → Bool) → ℕ → Bool
+runsBack C early k = not (early (C .from k)) && early (C .to k)
+
+abbrev pub crosses : Chart → (ℕ → Bool) → ℕ → Bool
+crosses C early k = kept C early k || runsBack C early k
+
+-- at how many of its feeds a way crosses the border; a feed that comes twice is counted twice
+abbrev pub crossings : Chart → (ℕ → Bool) → List ℕ → ℕ
+crossings C early [] = 0
+crossings C early (k ∷ w) = cond (crosses C early k) 1 0 + crossings C early w
+
+-- the prices of the kept feeds added up (capacity of the cut)
+abbrev pub cost : Chart → (ℕ → Bool) → ℤ
+cost C early = sumOver C (kept C early) (C .price)
+
+-- how many of the steps 1 to n are early
+abbrev pub earlySteps : Chart → (ℕ → Bool) → ℕ
+earlySteps C early = howMany (C .steps) (λ i. early (suc i))
+
+-- by its ways: what owners are promised of a border
+
+abbrev pub CrossedOnce : Chart → (ℕ → Bool) → Type 0
+CrossedOnce C early = (w : List ℕ) → Way C w → crossings C early w ≡ 1
+
+abbrev pub CrossedUnbarred : Chart → (ℕ → Bool) → Type 0
+CrossedUnbarred C early = (w : List ℕ) → Way C w → (k : ℕ) → In k w → crosses C early k ≡ true → C .barred k ≡ false
+
+-- every way crosses the border exactly once, at an unbarred feed
+pub record Proper (C : Chart) (early : ℕ → Bool) : Type 0 where
+  pub border : Border C early
+  pub once : CrossedOnce C early
+  pub unbarred : CrossedUnbarred C early
+
+-- by its feeds: what can be looked up in a chart
+
+abbrev pub NoneBack : Chart → (ℕ → Bool) → Type 0
+NoneBack C early = (k : ℕ) → k < C .count → runsBack C early k ≡ false
+
+abbrev pub KeptUnbarred : Chart → (ℕ → Bool) → Type 0
+KeptUnbarred C early = (k : ℕ) → k < C .count → kept C early k ≡ true → C .barred k ≡ false
+
+-- no feed runs back, and no kept feed is barred (a cut of limited capacity where feeds against it have none)
+pub record Allowed (C : Chart) (early : ℕ → Bool) : Type 0 where
+  pub border : Border C early
+  pub none-back : NoneBack C early
+  pub kept-unbarred : KeptUnbarred C early
+
+-- the border of a closed book: no proper border costs less, and none that costs the same has fewer early steps
+pub record Best (C : Chart) (early : ℕ → Bool) : Type 0 where
+  pub proper : Proper C early
+  pub cheapest : (other : ℕ → Bool) → Proper C other → cost C early ≤ℤ cost C other
+  pub fewest : (other : ℕ → Bool) → Proper C other → cost C other ≡ cost C early → earlySteps C early ≤ earlySteps C other

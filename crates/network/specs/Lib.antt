@@ -1,0 +1,11 @@
+pub mod Chart
+pub mod Walk
+pub mod Sum
+pub mod Border
+pub mod Move
+pub mod Flow
+pub mod Raise
+pub mod Audit
+pub mod Arc
+pub mod History
+pub mod Laws

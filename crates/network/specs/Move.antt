@@ -1,0 +1,58 @@
+-- Moves along feeds, forward and backward (arcs of the residual network).
+use mathlib.Core.Path.{_≡_}
+use mathlib.Core.Bool.{Bool, true, _&&_, _||_}
+use mathlib.Core.Logic.{_⊎_}
+use Prim.Native.Nat.{ℕ, _<_}
+use lib.Dec.{ltb}
+use lib.IntN.{ℤ}
+use lib.Signed.{ltZ}
+use Rattle.network.specs.Chart.{Chart}
+use Rattle.network.specs.Walk.{Map, Leads}
+use Rattle.network.specs.Border.{Border, kept, runsBack, CrossedOnce}
+
+-- along feed k from its start to its end, or against it
+pub data Move : Type 0 where
+  forward backward : ℕ → Move
+
+abbrev pub moveFeed : Move → ℕ
+moveFeed (forward k) = k
+moveFeed (backward k) = k
+
+abbrev pub moveFrom : Chart → Move → ℕ
+moveFrom C (forward k) = C .from k
+moveFrom C (backward k) = C .to k
+
+abbrev pub moveTo : Chart → Move → ℕ
+moveTo C (forward k) = C .to k
+moveTo C (backward k) = C .from k
+
+-- one may move forward where `may` says so, and backward always
+abbrev pub permits : Chart → (ℕ → Bool) → Move → Bool
+permits C may (forward k) = ltb k (C .count) && may k
+permits C may (backward k) = ltb k (C .count)
+
+abbrev pub moves : Chart → (ℕ → Bool) → Map Move
+moves C may = record { from = moveFrom C; to = moveTo C; passable = permits C may }
+
+-- moves without limit: forward along barred feeds, backward along all
+abbrev pub unlimitedMoves : Chart → Map Move
+unlimitedMoves C = moves C (C .barred)
+
+-- feed k has room for more flow: it is barred, or its flow is less than its price
+abbrev pub hasSpare : Chart → (ℕ → ℤ) → ℕ → Bool
+hasSpare C f k = C .barred k || ltZ (f k) (C .price k)
+
+-- open moves at the flows f: forward along feeds that have room, backward along all
+abbrev pub openMoves : Chart → (ℕ → ℤ) → Map Move
+openMoves C f = moves C (hasSpare C f)
+
+abbrev pub UnlimitedWay : Chart → Type 0
+UnlimitedWay C = Leads (unlimitedMoves C) (C .source) (C .sink)
+
+-- each border has a feed that runs back or keeps a barred feed
+abbrev pub NoneAllowed : Chart → Type 0
+NoneAllowed C = (early : ℕ → Bool) → Border C early → (k : ℕ) × (k < C .count) × ((runsBack C early k ≡ true) ⊎ ((kept C early k ≡ true) × (C .barred k ≡ true)))
+
+-- each border that every way crosses exactly once keeps a barred feed
+abbrev pub AlwaysBarred : Chart → Type 0
+AlwaysBarred C = (early : ℕ → Bool) → Border C early → CrossedOnce C early → (k : ℕ) × (k < C .count) × (kept C early k ≡ true) × (C .barred k ≡ true)
