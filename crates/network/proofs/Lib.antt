@@ -9,3 +9,8 @@ pub mod Blocked
 pub mod Value
 pub mod Closed
 pub mod Heights
+pub mod Shortest
+pub mod Raising
+pub mod Bounds
+pub mod Few
+pub mod Writing

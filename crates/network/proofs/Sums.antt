@@ -8,8 +8,9 @@ use lib.Dec.{eqb}
 use lib.IntN.{ℤ, pos, _+ℤ_, _-ℤ_}
 use lib.Signed.{_≤ℤ_, _<ℤ_}
 use Rattle.std.proofs.shelf.Signed.{ints}
-use Rattle.std.proofs.shelf.Tests.{cases-eq}
-use Rattle.network.specs.Sum.{sum, howMany}
+use Rattle.std.proofs.shelf.Tests.{cases-eq, eq-eqb, ne-eqb}
+use Rattle.network.specs.Chart.{Chart}
+use Rattle.network.specs.Sum.{sum, howMany, sumOver}
 
 pub sum-same : (n : ℕ) (g h : ℕ → ℤ) → ((i : ℕ) → i < n → g i ≡ h i) → sum n g ≡ sum n h
 sum-same zero g h e = refl
@@ -78,6 +79,32 @@ sum-swap (suc n) m g =
 pub sum-cond : (n : ℕ) (b : Bool) (g : ℕ → ℤ) → cond b (sum n g) (pos 0) ≡ sum n (λ i. cond b (g i) (pos 0))
 sum-cond n true g = refl
 sum-cond n false g = sym (sum-zero n (λ i. pos 0) (λ i l. refl))
+
+-- over the feeds that pass
+
+pub cond-zero : (b : Bool) (x : ℤ) → x ≡ pos 0 → cond b x (pos 0) ≡ pos 0
+cond-zero true x e = e
+cond-zero false x e = refl
+
+cond-plus : (b : Bool) (x y : ℤ) → cond b (x +ℤ y) (pos 0) ≡ cond b x (pos 0) +ℤ cond b y (pos 0)
+cond-plus true x y = refl
+cond-plus false x y = refl
+
+module _ (C : Chart) (t : ℕ → Bool) where
+  pub sumOver-same : (g h : ℕ → ℤ) → ((k : ℕ) → k < C .count → g k ≡ h k) → sumOver C t g ≡ sumOver C t h
+  sumOver-same g h e = sum-same (C .count) _ _ (λ k l. ap (λ z. cond (t k) z (pos 0)) (e k l))
+
+  pub sumOver-zero : (g : ℕ → ℤ) → ((k : ℕ) → k < C .count → g k ≡ pos 0) → sumOver C t g ≡ pos 0
+  sumOver-zero g e = sum-zero (C .count) _ (λ k l. cond-zero (t k) (g k) (e k l))
+
+  pub sumOver-plus : (g h : ℕ → ℤ) → sumOver C t (λ k. g k +ℤ h k) ≡ sumOver C t g +ℤ sumOver C t h
+  sumOver-plus g h = sum-same (C .count) _ _ (λ k l. cond-plus (t k) (g k) (h k)) ∙ sum-plus (C .count) _ _
+
+  -- one feed alone
+  pub sumOver-at : (j : ℕ) (z : ℤ) → j < C .count → sumOver C t (λ k. cond (eqb j k) z (pos 0)) ≡ cond (t j) z (pos 0)
+  sumOver-at j z l =
+      sum-at (C .count) (λ k. cond (t k) (cond (eqb j k) z (pos 0)) (pos 0)) j l (λ k m q. cond-zero (t k) _ (rw (ne-eqb j k (λ e. q (sym e)))))
+      ∙ rw (eq-eqb j j refl)
 
 pub howMany-most : (n : ℕ) (t : ℕ → Bool) → howMany n t ≤ n
 howMany-most zero t = omega arith

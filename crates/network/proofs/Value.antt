@@ -14,15 +14,11 @@ use Rattle.network.specs.Sum.{sum, sumOver}
 use Rattle.network.specs.Border.{Border, kept, runsBack, NoneBack, KeptUnbarred, Allowed}
 use Rattle.network.specs.Flow.{outflow, inflow, Flow, value}
 use Rattle.network.specs.Laws.{ValueAcross, ValueAtMostCost}
-use Rattle.network.proofs.Sums.{sum-same, sum-zero, sum-minus, sum-le, sum-at, sum-swap, sum-cond}
+use Rattle.network.proofs.Sums.{cond-zero, sum-same, sum-zero, sum-minus, sum-le, sum-at, sum-swap, sum-cond}
 
 cond-minus : (b : Bool) (x y : ℤ) → cond b (x -ℤ y) (pos 0) ≡ cond b x (pos 0) -ℤ cond b y (pos 0)
 cond-minus true x y = refl
 cond-minus false x y = refl
-
-cond-zero : (b : Bool) (x : ℤ) → x ≡ pos 0 → cond b x (pos 0) ≡ pos 0
-cond-zero true x e = e
-cond-zero false x e = refl
 
 cond-le : (b : Bool) (x y : ℤ) → (b ≡ true → x ≤ℤ y) → cond b x (pos 0) ≤ℤ cond b y (pos 0)
 cond-le true x y h = h refl

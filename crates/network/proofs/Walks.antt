@@ -25,6 +25,12 @@ module _ {A : Type 0} (M : Map A) where
   met-first a [] = inl refl
   met-first a (x ∷ w) = inl refl
 
+  -- both ends of each arc are met
+  pub met-ends : (a : ℕ) (w : List A) (b : ℕ) → Walk M a w b → (x : A) → In x w → In (M .from x) (met M a w) × In (M .to x) (met M a w)
+  met-ends a [] b h x i = absurd i
+  met-ends a (y ∷ w) b h x (inl e) = subst (λ z. In (M .from z) (met M a (y ∷ w)) × In (M .to z) (met M a (y ∷ w))) e (inl (sym (h .1)), inr (met-first (M .to y) w))
+  met-ends a (y ∷ w) b h x (inr i) = let r = met-ends (M .to y) w b (h .2) x i in (inr (r .0), inr (r .1))
+
   -- the step where two walks are joined is met
   pub met-join : (a : ℕ) (u : List A) (b : ℕ) (w : List A) → Walk M a u b → In b (met M a (u ++ w))
   met-join a [] b w h = subst (λ x. In x (met M a w)) h (met-first a w)

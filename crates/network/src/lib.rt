@@ -1,1 +1,5 @@
-// The mathematics of charts, borders and flows: each function's contract is a law.
+// The mathematics of charts, borders and flows. The functions do nothing: the contract of each is a law.
+pub mod borders;
+pub mod flows;
+pub mod raises;
+pub mod searches;
