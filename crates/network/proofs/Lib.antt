@@ -14,3 +14,4 @@ pub mod Raising
 pub mod Bounds
 pub mod Few
 pub mod Writing
+pub mod Histories

@@ -1,10 +1,13 @@
 -- The chart that a history of calls makes. It is told the arguments of each call and whether the call was served.
+use mathlib.Core.Path.{_≡_}
 use mathlib.Core.List.{List, [], _∷_, _++_}
 use mathlib.Core.Bool.{Bool, true, false, cond}
-use Prim.Native.Nat.{ℕ, zero, suc, _+_}
+use mathlib.Core.Logic.{_⊎_}
+use Prim.Native.Nat.{ℕ, zero, suc, _<_}
 use lib.IntN.{ℤ, pos}
 use lib.ListN.{length, getD, set}
 use Rattle.network.specs.Chart.{Chart}
+use Rattle.network.specs.Walk.{In}
 
 pub record Feed : Type 0 where
   pub from : ℕ
@@ -71,7 +74,7 @@ charted n s t fs = record {
 abbrev pub history : ℕ → ℕ → ℕ → List Told → Chart
 history n s t calls = charted n s t (after [] calls)
 
--- how many raises were served since the latest served begin, where there were r before the calls
+-- raises since the latest begin, after one more served call, where there were r
 abbrev pub counted : ℕ → Call → ℕ
 counted r (enter u v p) = r
 counted r (reprice k p) = r
@@ -82,6 +85,36 @@ counted r raise = suc r
 counted r close = r
 counted r reopen = r
 
-abbrev pub raisesSince : ℕ → List Told → ℕ
-raisesSince r [] = r
-raisesSince r (t ∷ ts) = raisesSince (cond (t .served) (counted r (t .call)) r) ts
+-- how many raises were served since the latest served begin, where there were r before the calls
+abbrev pub raisesAfter : ℕ → List Told → ℕ
+raisesAfter r [] = r
+raisesAfter r (t ∷ ts) = raisesAfter (cond (t .served) (counted r (t .call)) r) ts
+
+-- What the history says of its chart: the latest call decides.
+
+-- none of the calls is of this sort and was served
+abbrev pub NoneServed : (Call → Type 0) → List Told → Type 0
+NoneServed Sort calls = (t : Told) → In t calls → t .served ≡ true → Sort (t .call) → ⊥
+
+abbrev pub Reprices : ℕ → Call → Type 0
+Reprices number c = (p : ℤ) × (c ≡ reprice number p)
+
+abbrev pub SetsBar : ℕ → Call → Type 0
+SetsBar number c = (c ≡ bar number) ⊎ (c ≡ unbar number)
+
+-- the chart where c was served after the earlier calls and before the later ones
+abbrev pub withServed : ℕ → ℕ → ℕ → List Told → Call → List Told → Chart
+withServed n s t earlier c later = history n s t (earlier ++ (record { call = c; served = true } ∷ later))
+
+-- feed m is the one that a further served enter makes; its number is m + 1
+pub record LatestDecides (n s t : ℕ) (earlier later : List Told) (m : ℕ) : Type 0 where
+  pub refused : (c : Call) → history n s t (earlier ++ (record { call = c; served = false } ∷ later)) ≡ history n s t (earlier ++ later)
+  pub enter-counts : (u v : ℕ) (p : ℤ) → withServed n s t earlier (enter u v p) [] .count ≡ suc m
+  pub else-counts : (c : Call) → ((u v : ℕ) (p : ℤ) → c ≡ enter u v p → ⊥) → withServed n s t earlier c [] .count ≡ m
+  pub entered-from : (u v : ℕ) (p : ℤ) → withServed n s t earlier (enter u v p) later .from m ≡ u
+  pub entered-to : (u v : ℕ) (p : ℤ) → withServed n s t earlier (enter u v p) later .to m ≡ v
+  pub entered-price : (u v : ℕ) (p : ℤ) → NoneServed (Reprices (suc m)) later → withServed n s t earlier (enter u v p) later .price m ≡ p
+  pub entered-bar : (u v : ℕ) (p : ℤ) → NoneServed (SetsBar (suc m)) later → withServed n s t earlier (enter u v p) later .barred m ≡ false
+  pub repriced : (k : ℕ) (p : ℤ) → k < m → NoneServed (Reprices (suc k)) later → withServed n s t earlier (reprice (suc k) p) later .price k ≡ p
+  pub was-barred : (k : ℕ) → k < m → NoneServed (SetsBar (suc k)) later → withServed n s t earlier (bar (suc k)) later .barred k ≡ true
+  pub was-unbarred : (k : ℕ) → k < m → NoneServed (SetsBar (suc k)) later → withServed n s t earlier (unbar (suc k)) later .barred k ≡ false

@@ -16,6 +16,7 @@ use Rattle.network.specs.Flow.{Flow, Within, value, Closed, CanClose, Cheapest
 use Rattle.network.specs.Raise.{OpenWay, OpenWayLeft, ShortestLeft, LeastSpare, along, Raises, totalRaised}
 use Rattle.network.specs.Audit.{earlyBy, Audited}
 use Rattle.network.specs.Arc.{AsMoves, written}
+use Rattle.network.specs.History.{Told, history, LatestDecides}
 
 -- Borders by their ways and by their feeds
 
@@ -111,3 +112,9 @@ OnWayIsReached = (C : Chart) → (v : ℕ) → OnWay C v ↔ (Leads (feedsForwar
 
 abbrev pub WrittenIsAlong : Type 0
 WrittenIsAlong = (a : ℤ) (w : List Move) (fs : List ℤ) → ((x : Move) → In x w → moveFeed x < length fs) → (k : ℕ) → getD (written a w fs) k (pos 0) ≡ along a w (λ j. getD fs j (pos 0)) k
+
+-- Histories
+
+-- price and bar of a feed come from the latest served call that sets them, its ends from the enter that made it
+abbrev pub LatestIsChart : Type 0
+LatestIsChart = (n s t : ℕ) (earlier later : List Told) → LatestDecides n s t earlier later (history n s t earlier .count)
