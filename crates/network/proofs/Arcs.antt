@@ -1,17 +1,16 @@
--- Numbered arcs and moves have the same walks.
-use mathlib.Core.Path.{_≡_, refl, sym, _∙_, ap, subst}
+-- Which moves pass; and numbered arcs have the same walks as moves.
+use mathlib.Core.Path.{_≡_, refl, ap}
 use mathlib.Core.List.{List, [], _∷_, map}
-use mathlib.Core.Bool.{Bool, true, false, cond}
-use mathlib.Core.Logic.{_⊎_, inl, inr}
-use Prim.Native.Nat.{ℕ, _+_, _*_, _/_, _%_, _≤_, _<_}
+use mathlib.Core.Bool.{Bool, true}
+use mathlib.Core.Logic.{inl, inr}
+use Prim.Native.Nat.{ℕ, _+_, _*_, _/_, _%_, _<_}
 use native.Mathlib.Omega.{arith}
-use native.Mathlib.Nat.{div-add-mod, mod-lt}
-use lib.Dec.{eqb, ltb}
-use Rattle.std.proofs.shelf.Tests.{ltb-true, and-parts, cases-eq, eq-eqb, ne-eqb}
+use lib.Dec.{ltb}
+use Rattle.std.proofs.shelf.Tests.{ltb-true, lt-ltb, and-from, and-parts, cases-eq, eq-eqb, ne-eqb}
 use Rattle.network.specs.Chart.{Chart, Step, Fit}
 use Rattle.network.specs.Walk.{Walk, met}
 use Rattle.network.specs.Move.{Move, forward, backward, moveFeed, moveFrom, moveTo, permits, moves}
-use Rattle.network.specs.Arc.{moveOf, arcOf, numbered, AsMoves}
+use Rattle.network.specs.Arc.{moveOf, arcOf, numbered}
 use Rattle.network.specs.Laws.{NumberedAreMoves}
 
 move-of-arc : (x : Move) → moveOf (arcOf x) ≡ x
@@ -32,16 +31,24 @@ arc-of-move j =
     ]
 
 module _ (C : Chart) (may : ℕ → Bool) where
-  pub move-feed : (x : Move) → permits C may x ≡ true → moveFeed x < C .count
-  move-feed (forward k) p = ltb-true k (C .count) (and-parts (ltb k (C .count)) (may k) p .0)
-  move-feed (backward k) p = ltb-true k (C .count) p
+  pub move-feed : (x : Move) → moves C may .passable x ≡ true → moveFeed x < C .count
+  move-feed x p = ltb-true (moveFeed x) (C .count) (and-parts (ltb (moveFeed x) (C .count)) (permits may x) p .0)
+
+  pub backward-passes : (k : ℕ) → k < C .count → moves C may .passable (backward k) ≡ true
+  backward-passes k l = and-from (ltb k (C .count)) true (lt-ltb k (C .count) l) refl
+
+  pub forward-passes : (k : ℕ) → k < C .count → may k ≡ true → moves C may .passable (forward k) ≡ true
+  forward-passes k l m = and-from (ltb k (C .count)) (may k) (lt-ltb k (C .count) l) m
+
+  pub forward-may : (k : ℕ) → moves C may .passable (forward k) ≡ true → may k ≡ true
+  forward-may k p = and-parts (ltb k (C .count)) (may k) p .1
 
   -- the ends of a move are steps
-  pub move-steps : Fit C → (x : Move) → permits C may x ≡ true → Step C (moveFrom C x) × Step C (moveTo C x)
+  pub move-steps : Fit C → (x : Move) → moves C may .passable x ≡ true → Step C (moveFrom C x) × Step C (moveTo C x)
   move-steps fit (forward k) p = let l = move-feed (forward k) p in (fit .from-step k l, fit .to-step k l)
   move-steps fit (backward k) p = let l = move-feed (backward k) p in (fit .to-step k l, fit .from-step k l)
 
-  arc-below : (x : Move) → permits C may x ≡ true → arcOf x < 2 * C .count
+  arc-below : (x : Move) → moves C may .passable x ≡ true → arcOf x < 2 * C .count
   arc-below (forward k) p = omega (arith, move-feed (forward k) p)
   arc-below (backward k) p = omega (arith, move-feed (backward k) p)
 

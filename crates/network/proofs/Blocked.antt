@@ -1,17 +1,17 @@
 -- Charts without an allowed border: moves without limit lead from source to sink.
 use mathlib.Core.Path.{_≡_}
 use mathlib.Core.Bool.{Bool, true, false}
-use mathlib.Core.Logic.{_⊎_, inl, inr, _↔_}
+use mathlib.Core.Logic.{_⊎_, inl, inr}
 use Prim.Native.Nat.{ℕ, _<_}
 use native.Mathlib.Omega.{arith}
-use lib.Dec.{ltb}
-use Rattle.std.proofs.shelf.Tests.{ltb-true, lt-ltb, and-parts, and-from, cases-bool, both-ways}
+use Rattle.std.proofs.shelf.Tests.{cases-bool, both-ways}
 use Rattle.network.specs.Chart.{Chart, Fit}
-use Rattle.network.specs.Border.{Border, kept, runsBack, NoneBack, Allowed}
-use Rattle.network.specs.Move.{Move, forward, backward, moveFrom, moveTo, permits, unlimitedMoves, UnlimitedWay, NoneAllowed}
+use Rattle.network.specs.Border.{kept, runsBack, NoneBack, Allowed}
+use Rattle.network.specs.Move.{Move, forward, backward, moveFrom, moveTo, unlimitedMoves, UnlimitedWay}
 use Rattle.network.specs.Laws.{UnlimitedIsNoneAllowed, UnlimitedIsAlwaysBarred}
 use Rattle.network.proofs.Walks.{walk-leaves}
 use Rattle.network.proofs.Crossings.{once-is-none-back}
+use Rattle.network.proofs.Arcs.{move-feed, backward-passes, forward-passes, forward-may}
 use Rattle.network.proofs.Reach.{some, decides-some}
 use Rattle.network.proofs.Moves.{found, decides-found, found-source, found-more}
 
@@ -20,10 +20,10 @@ Against : Chart → (ℕ → Bool) → ℕ → Type 0
 Against C early k = (runsBack C early k ≡ true) ⊎ ((kept C early k ≡ true) × (C .barred k ≡ true))
 
 -- a move without limit from early to late is along such a feed
-against : (C : Chart) (early : ℕ → Bool) (x : Move) → permits C (C .barred) x ≡ true → early (moveFrom C x) ≡ true → early (moveTo C x) ≡ false → (k : ℕ) × (k < C .count) × Against C early k
+against : (C : Chart) (early : ℕ → Bool) (x : Move) → unlimitedMoves C .passable x ≡ true → early (moveFrom C x) ≡ true → early (moveTo C x) ≡ false → (k : ℕ) × (k < C .count) × Against C early k
 unfolding Against
-against C early (forward k) p e l = let q = and-parts (ltb k (C .count)) (C .barred k) p in (k, ltb-true k (C .count) (q .0), inr (grind arith, q .1))
-against C early (backward k) p e l = (k, ltb-true k (C .count) p, inl (grind arith))
+against C early (forward k) p e l = (k, move-feed C (C .barred) (forward k) p, inr (grind arith, forward-may C (C .barred) k p))
+against C early (backward k) p e l = (k, move-feed C (C .barred) (backward k) p, inl (grind arith))
 
 -- the steps that moves without limit reach, where the sink is none of them
 pub some-allowed : (C : Chart) → Fit C → (UnlimitedWay C → ⊥) → (early : ℕ → Bool) × Allowed C early
@@ -31,8 +31,8 @@ some-allowed C fit none =
     let e = found C (C .barred) fit in
     let late : e (C .sink) ≡ false = elim (cases-bool (e (C .sink))) [ inl h ↦ absurd (none (decides-found C (C .barred) fit (C .sink) .0 h)) | inr h ↦ h ] in
     let fw : (k : ℕ) → k < C .count → C .barred k ≡ true → e (C .from k) ≡ true → e (C .to k) ≡ true =
-    λ k l b. found-more C (C .barred) fit (forward k) (and-from (ltb k (C .count)) (C .barred k) (lt-ltb k (C .count) l) b) in
-    let bw : (k : ℕ) → k < C .count → e (C .to k) ≡ true → e (C .from k) ≡ true = λ k l. found-more C (C .barred) fit (backward k) (lt-ltb k (C .count) l) in (
+    λ k l b. found-more C (C .barred) fit (forward k) (forward-passes C (C .barred) k l b) in
+    let bw : (k : ℕ) → k < C .count → e (C .to k) ≡ true → e (C .from k) ≡ true = λ k l. found-more C (C .barred) fit (backward k) (backward-passes C (C .barred) k l) in (
       e,
       record {
         border = (found-source C (C .barred) fit, late);

@@ -1,5 +1,5 @@
 -- Flows after raises: no flow lies farther from 0 than the total raised, and that is at most the sum of the prices.
-use mathlib.Core.Path.{_≡_, refl, sym, _∙_, ap₂}
+use mathlib.Core.Path.{_≡_, sym, _∙_, ap₂}
 use mathlib.Core.Bool.{Bool, true, false, cond}
 use Prim.Native.Nat.{ℕ, _*_, _≤_, _<_}
 use native.Mathlib.Omega.{arith}
@@ -8,13 +8,12 @@ use lib.Dec.{eqb}
 use lib.IntN.{ℤ, pos, _+ℤ_, _-ℤ_}
 use lib.Signed.{_≤ℤ_}
 use Rattle.std.proofs.shelf.Signed.{ints}
-use Rattle.network.specs.Chart.{Chart, Fit, Limited}
-use Rattle.network.specs.Sum.{sum, sumOver}
-use Rattle.network.specs.Border.{kept, cost}
-use Rattle.network.specs.Move.{UnlimitedWay}
-use Rattle.network.specs.Flow.{Flow, Within, value}
-use Rattle.network.specs.Raise.{along, Raise, Raises, begun, raised, totalRaised}
-use Rattle.network.specs.Laws.{RaisedFlow, FlowsWithinTotal, FlowsWithinPrices, FlowsWithinLimit}
+use Rattle.network.specs.Chart.{Chart}
+use Rattle.network.specs.Sum.{sum}
+use Rattle.network.specs.Border.{kept}
+use Rattle.network.specs.Flow.{Flow, value}
+use Rattle.network.specs.Raise.{along, begun, raised, totalRaised}
+use Rattle.network.specs.Laws.{FlowsWithinTotal, FlowsWithinPrices, FlowsWithinLimit}
 use Rattle.network.proofs.Sums.{sum-le, sum-most, sumOver-same, sumOver-zero}
 use Rattle.network.proofs.Blocked.{some-allowed}
 use Rattle.network.proofs.Value.{value-at-most-cost}

@@ -1,26 +1,26 @@
 -- A border whose kept feeds are full costs the value. The steps that open moves reach are such a border, and it lies
 -- inside every other that costs as much.
 use mathlib.Core.Path.{_≡_, refl, sym, _∙_}
-use mathlib.Core.List.{List, [], _∷_, _++_}
-use mathlib.Core.Bool.{Bool, true, false, not, _&&_, _||_, cond}
-use mathlib.Core.Logic.{_⊎_, inl, inr, _↔_}
+use mathlib.Core.List.{[], _∷_, _++_}
+use mathlib.Core.Bool.{Bool, true, false, _||_, cond}
+use mathlib.Core.Logic.{inl, inr}
 use Prim.Native.Nat.{ℕ, suc, _≤_, _<_}
 use native.Mathlib.Omega.{arith}
-use lib.Dec.{eqb, ltb}
+use lib.Dec.{eqb}
 use lib.IntN.{ℤ, pos}
 use lib.Signed.{_≤ℤ_, ltZ}
 use Rattle.std.proofs.shelf.Signed.{ints}
-use Rattle.std.proofs.shelf.Tests.{cases-bool, and-from, and-parts, or-cases, or-parts, lt-ltb, ltb-true, both-ways, eqb-true, eq-eqb}
+use Rattle.std.proofs.shelf.Tests.{cases-bool, or-cases, or-parts, both-ways, eqb-true, eq-eqb}
 use Rattle.network.specs.Chart.{Chart, Step, Fit}
-use Rattle.network.specs.Border.{Border, kept, NoneBack, Allowed, cost, AllOnWays, Best}
-use Rattle.network.specs.Move.{Move, forward, backward, moveFrom, moveTo, permits, hasSpare, openMoves}
+use Rattle.network.specs.Border.{Border, kept, NoneBack, Allowed, cost}
+use Rattle.network.specs.Move.{Move, forward, backward, moveFrom, moveTo, hasSpare, openMoves}
 use Rattle.network.specs.Flow.{Flow, value, Reached, Closed, Cheapest}
-use Rattle.network.specs.Audit.{earlyBy, KeptFull, SidesFit, Audited}
+use Rattle.network.specs.Audit.{earlyBy, KeptFull}
 use Rattle.network.specs.Laws.{ClosedIsCheapest, ClosedIsBest, AuditedIsCheapest, ClosedIsAudited}
 use Rattle.network.proofs.Walks.{walk-push, walk-leaves}
 use Rattle.network.proofs.Sums.{sum-same, sum-less, howMany-le}
 use Rattle.network.proofs.Crossings.{allowed-from-proper, proper-from-allowed}
-use Rattle.network.proofs.Arcs.{move-steps}
+use Rattle.network.proofs.Arcs.{move-feed, backward-passes, forward-passes, forward-may, move-steps}
 use Rattle.network.proofs.Value.{kept-carry-value, kept-within, value-at-most-cost}
 
 -- no feed runs back, and the kept feeds are full
@@ -54,14 +54,13 @@ module _ (C : Chart) (fit : Fit C) (f : ℕ → ℤ) (fl : Flow C f) where
         let less = sum-less (C .count) (λ k. cond (kept C other k) (f k) (pos 0)) (λ k. cond (kept C other k) (C .price k) (pos 0)) (kept-within C f fl other (al .kept-unbarred)) k l (rw e (omega (arith, ints))) in
         omega (arith, ints)
 
-    no-leaving : (x : Move) → permits C (hasSpare C f) x ≡ true → other (moveFrom C x) ≡ true → other (moveTo C x) ≡ false → ⊥
+    no-leaving : (x : Move) → openMoves C f .passable x ≡ true → other (moveFrom C x) ≡ true → other (moveTo C x) ≡ false → ⊥
     no-leaving (forward k) p a b =
-        let q = and-parts (ltb k (C .count)) (hasSpare C f k) p in
-        let l = ltb-true k (C .count) (q .0) in
+        let l = move-feed C (hasSpare C f) (forward k) p in
         let kp : kept C other k ≡ true = grind arith in
-        elim (or-cases (C .barred k) (ltZ (f k) (C .price k)) (q .1)) [ inl h ↦ both-ways (C .barred k) (al .kept-unbarred k l kp) h | inr h ↦ full k l kp h ]
+        elim (or-cases (C .barred k) (ltZ (f k) (C .price k)) (forward-may C (hasSpare C f) k p)) [ inl h ↦ both-ways (C .barred k) (al .kept-unbarred k l kp) h | inr h ↦ full k l kp h ]
     no-leaving (backward k) p a b =
-        let n = al .none-back k (ltb-true k (C .count) p) in
+        let n = al .none-back k (move-feed C (hasSpare C f) (backward k) p) in
         absurd (grind arith)
 
     reached-inside : (v : ℕ) → Reached C f v → other v ≡ true
@@ -73,7 +72,7 @@ module _ (C : Chart) (fit : Fit C) (f : ℕ → ℤ) (fl : Flow C f) where
 
   module _ (early : ℕ → Bool) (cl : Closed C f early) where
     -- an open move from an early step leads to an early step
-    stays-early : (x : Move) → permits C (hasSpare C f) x ≡ true → early (moveFrom C x) ≡ true → early (moveTo C x) ≡ true
+    stays-early : (x : Move) → openMoves C f .passable x ≡ true → early (moveFrom C x) ≡ true → early (moveTo C x) ≡ true
     stays-early x p e =
         let s = move-steps C (hasSpare C f) fit x p in
         let r = cl .early-reached (moveFrom C x) (s .0) .0 e in
@@ -90,7 +89,7 @@ module _ (C : Chart) (fit : Fit C) (f : ℕ → ℤ) (fl : Flow C f) where
 
     closed-full : KeptFull C f early
     closed-full k l e =
-        let b : hasSpare C f k ≡ true → early (C .from k) ≡ true → early (C .to k) ≡ true = λ o. stays-early (forward k) (and-from (ltb k (C .count)) _ (lt-ltb k (C .count) l) o) in
+        let b : hasSpare C f k ≡ true → early (C .from k) ≡ true → early (C .to k) ≡ true = λ o. stays-early (forward k) (forward-passes C (hasSpare C f) k l o) in
         let o : (C .barred k || ltZ (f k) (C .price k)) ≡ false = grind arith in
         let q = or-parts (C .barred k) (ltZ (f k) (C .price k)) o in
         let w = fl .within-prices k l (q .0) in
@@ -100,7 +99,7 @@ module _ (C : Chart) (fit : Fit C) (f : ℕ → ℤ) (fl : Flow C f) where
     saturated : Saturated C f early
     saturated = record {
       border = closed-border;
-      none-back = λ k l. (let b = stays-early (backward k) (lt-ltb k (C .count) l) in grind arith);
+      none-back = λ k l. (let b = stays-early (backward k) (backward-passes C (hasSpare C f) k l) in grind arith);
       kept-full = closed-full;
     }
 

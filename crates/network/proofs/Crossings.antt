@@ -2,13 +2,13 @@
 use mathlib.Core.Path.{_≡_, refl}
 use mathlib.Core.List.{List, [], _∷_, _++_}
 use mathlib.Core.Bool.{Bool, true, false}
-use mathlib.Core.Logic.{_⊎_, inl, inr, _↔_}
+use mathlib.Core.Logic.{inl, inr}
 use Prim.Native.Nat.{ℕ, _+_, _≤_, _<_}
 use native.Mathlib.Omega.{arith}
 use Rattle.std.proofs.shelf.Tests.{ltb-true, lt-ltb}
 use Rattle.network.specs.Chart.{Chart, Fit}
-use Rattle.network.specs.Walk.{Walk, Leads, In, reversed}
-use Rattle.network.specs.Border.{feedsForward, Way, OnWay, AllOnWays, Border, crossings, NoneBack, Allowed, Proper}
+use Rattle.network.specs.Walk.{Walk, In, reversed}
+use Rattle.network.specs.Border.{feedsForward, Way, AllOnWays, crossings, NoneBack, Allowed, Proper}
 use Rattle.network.specs.Laws.{OnceIsNoneBack, UnbarredIsKept, OnWayIsReached}
 use Rattle.network.proofs.Walks.{walk-join, walk-passable, walk-cut, met-join, leads-back}
 

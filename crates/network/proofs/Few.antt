@@ -1,26 +1,25 @@
 -- At most steps × feeds raises: no step comes nearer to the source, and with each raise a feed falls out of use until
 -- its start has moved away.
 use mathlib.Core.Path.{_≡_, refl, sym, ap}
-use mathlib.Core.List.{List}
-use mathlib.Core.Bool.{Bool, true, false, _&&_, _||_, cond}
-use mathlib.Core.Logic.{_⊎_, inl, inr}
-use Prim.Native.Nat.{ℕ, suc, _+_, _-_, _*_, _≤_, _<_}
+use mathlib.Core.Bool.{Bool, true, false, cond}
+use mathlib.Core.Logic.{inl, inr}
+use Prim.Native.Nat.{ℕ, _+_, _-_, _*_, _≤_, _<_}
 use native.Mathlib.Omega.{arith}
 use native.Mathlib.Nat.{mul-comm}
-use lib.Dec.{ltb}
 use lib.IntN.{ℤ, pos, _+ℤ_}
 use lib.Signed.{_≤ℤ_, _<ℤ_, ltZ}
 use lib.ListN.{length}
 use Rattle.std.proofs.shelf.Signed.{ints}
-use Rattle.std.proofs.shelf.Tests.{cases-bool, and-parts, and-from, or-cases, or-parts, or-from, both-ways, ltb-true, lt-ltb}
+use Rattle.std.proofs.shelf.Tests.{cases-bool, or-cases, or-parts, or-from, both-ways}
 use Rattle.network.specs.Chart.{Chart, Fit}
 use Rattle.network.specs.Walk.{In}
 use Rattle.network.specs.Sum.{sum}
-use Rattle.network.specs.Move.{Move, forward, backward, moveFrom, moveTo, permits, hasSpare, openMoves}
+use Rattle.network.specs.Move.{Move, forward, backward, moveFrom, moveTo, hasSpare, openMoves}
 use Rattle.network.specs.Flow.{Flow}
-use Rattle.network.specs.Raise.{carried, along, Raise, Raises, begun, raised}
+use Rattle.network.specs.Raise.{Raise, Raises, begun, raised}
 use Rattle.network.specs.Laws.{FewRaises}
 use Rattle.network.proofs.Walks.{walk-passable}
+use Rattle.network.proofs.Arcs.{move-feed, backward-passes, forward-passes, forward-may}
 use Rattle.network.proofs.Sums.{sum-zero, sum-le, sum-less, sum-most}
 use Rattle.network.proofs.Moves.{far, far-most, far-source, far-more, far-cases, far-walk}
 use Rattle.network.proofs.Heights.{rise, each-rises, rising-distinct}
@@ -70,7 +69,7 @@ module _ (C : Chart) (fit : Fit C) (f : ℕ → ℤ) (fl : Flow C f) (a : ℤ) (
   d′ : ℕ → ℕ
   d′ v = far C (hasSpare C g) fit v
 
-  slow : (x : Move) → permits C (hasSpare C f) x ≡ true → d (moveTo C x) ≤ d (moveFrom C x) + 1
+  slow : (x : Move) → openMoves C f .passable x ≡ true → d (moveTo C x) ≤ d (moveFrom C x) + 1
   unfolding d
   slow x p = far-more C (hasSpare C f) fit x p
 
@@ -104,16 +103,15 @@ module _ (C : Chart) (fit : Fit C) (f : ℕ → ℤ) (fl : Flow C f) (a : ℤ) (
       ]
 
   back-slow : (k : ℕ) → k < C .count → d (C .from k) ≤ d (C .to k) + 1
-  back-slow k l = slow (backward k) (lt-ltb k (C .count) l)
+  back-slow k l = slow (backward k) (backward-passes C (hasSpare C f) k l)
 
   -- the old distances rise by at most one with each new move
-  new-slow : (x : Move) → permits C (hasSpare C g) x ≡ true → d (moveTo C x) ≤ d (moveFrom C x) + 1
+  new-slow : (x : Move) → openMoves C g .passable x ≡ true → d (moveTo C x) ≤ d (moveFrom C x) + 1
   new-slow (forward k) p =
-      let q = and-parts (ltb k (C .count)) (hasSpare C g k) p in
-      let l = ltb-true k (C .count) (q .0) in
+      let l = move-feed C (hasSpare C g) (forward k) p in
       elim (cases-bool (hasSpare C f k)) [
-        | inl o ↦ slow (forward k) (and-from (ltb k (C .count)) (hasSpare C f k) (q .0) o)
-        | inr o ↦ omega (arith, opened k l o (q .1))
+        | inl o ↦ slow (forward k) (forward-passes C (hasSpare C f) k l o)
+        | inr o ↦ omega (arith, opened k l o (forward-may C (hasSpare C g) k p))
       ]
   new-slow (backward k) p = slow (backward k) p
 
@@ -134,14 +132,17 @@ module _ (C : Chart) (fit : Fit C) (f : ℕ → ℤ) (fl : Flow C f) (a : ℤ) (
   tight : ℕ
   tight = s .least .one-is .0
 
-  tight-open : (ltb tight (C .count) ≡ true) × (hasSpare C f tight ≡ true)
+  tight-open : openMoves C f .passable (forward tight) ≡ true
   unfolding tight
-  tight-open = and-parts (ltb tight (C .count)) (hasSpare C f tight) (walk-passable (openMoves C f) (C .source) (s .way) (C .sink) (s .is-open .0) (forward tight) (s .least .one-is .1))
+  tight-open = walk-passable (openMoves C f) (C .source) (s .way) (C .sink) (s .is-open .0) (forward tight) (s .least .one-is .1)
+
+  tight-feed : tight < C .count
+  tight-feed = move-feed C (hasSpare C f) (forward tight) tight-open
 
   tight-full : hasSpare C g tight ≡ false
   unfolding tight
   tight-full =
-      let x = s .flows tight (ltb-true tight (C .count) (tight-open .0)) in
+      let x = s .flows tight tight-feed in
       let y = carried-once C (hasSpare C f) a (C .source) (s .way) (C .sink) (s .is-open .0) (s .is-open .1) (forward tight) (s .least .one-is .1) in
       let z = s .least .one-is .3 in
       or-from (C .barred tight) (ltZ (g tight) (C .price tight)) (s .least .one-is .2) (sym (omega (arith, ints)))
@@ -150,14 +151,14 @@ module _ (C : Chart) (fit : Fit C) (f : ℕ → ℤ) (fl : Flow C f) (a : ℤ) (
   unfolding left-in d d′ tight
   tight-less =
       left-less (C .steps) (hasSpare C f tight) (hasSpare C g tight) (d (C .from tight)) (d (C .to tight)) (d′ (C .from tight)) (d′ (C .to tight))
-      (tight-open .1) tight-full (farther (C .to tight)) (on-way (forward tight) (s .least .one-is .1)) (far-most C (hasSpare C f) fit (C .to tight))
+      (forward-may C (hasSpare C f) tight tight-open) tight-full (farther (C .to tight)) (on-way (forward tight) (s .least .one-is .1)) (far-most C (hasSpare C f) fit (C .to tight))
 
   potential-less : potential C fit g <ℤ potential C fit f
   unfolding potential
   potential-less =
       let less = tight-less in
       sum-less (C .count) (λ k. pos (left-in C fit g k)) (λ k. pos (left-in C fit f k)) (λ k l. let h = none-more k l in omega (arith, ints))
-      tight (ltb-true tight (C .count) (tight-open .0)) (omega (arith, ints))
+      tight tight-feed (omega (arith, ints))
 
 raises-and-potential : (C : Chart) (fit : Fit C) (n : ℕ) (f : ℕ → ℤ) → Raises C n f → (pos n +ℤ potential C fit f) ≤ℤ pos (C .count * C .steps)
 unfolding potential left-in

@@ -1,16 +1,15 @@
 -- The chart that a history makes, feed by feed: the latest call decides.
 use mathlib.Core.Path.{_≡_, refl, sym, _∙_, ap, subst}
 use mathlib.Core.List.{List, [], _∷_, _++_}
-use mathlib.Core.Bool.{Bool, true, false, cond}
+use mathlib.Core.Bool.{Bool, true, false}
 use mathlib.Core.Logic.{_⊎_, inl, inr}
-use Prim.Native.Nat.{ℕ, zero, suc, _+_, _≤_, _<_}
+use Prim.Native.Nat.{ℕ, zero, suc, _+_, _<_}
 use native.Mathlib.Omega.{arith}
 use lib.IntN.{ℤ}
 use lib.Seq.{getD-set-same, getD-set-other, getD-append-seam}
-use lib.ListN.{length, getD, set, length-set, length-append}
+use lib.ListN.{length, getD, length-set, length-append}
 use Rattle.std.proofs.shelf.Lists.{getD-append-left}
 use Rattle.std.proofs.shelf.Tests.{cases-eq, cases-bool}
-use Rattle.network.specs.Walk.{In}
 use Rattle.network.specs.History.{Feed, noFeed, Call, enter, reprice, bar, unbar, begin, raise, close, reopen, Told, changed, priced, setBar, made, after, charted, NoneServed, Reprices, SetsBar, LatestDecides}
 use Rattle.network.specs.Laws.{LatestIsChart}
 
@@ -37,7 +36,6 @@ module _ {X : Type 0} (read : Feed → X) (Sort : Call → Type 0) (k : ℕ)
     (price-kept : (p : ℤ) → Sort (reprice (suc k) p) ⊎ ((x : Feed) → read (priced p x) ≡ read x))
     (bar-kept : Sort (bar (suc k)) ⊎ ((x : Feed) → read (setBar true x) ≡ read x))
     (unbar-kept : Sort (unbar (suc k)) ⊎ ((x : Feed) → read (setBar false x) ≡ read x)) where
-
   abbrev now : List Feed → X
   now fs = read (getD fs k noFeed)
 

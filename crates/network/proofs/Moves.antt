@@ -1,16 +1,15 @@
 -- What moves reach from the source of a chart, and in how many moves.
 use mathlib.Core.Path.{_≡_, refl}
 use mathlib.Core.List.{List, [], _∷_, _++_, map}
-use mathlib.Core.Bool.{Bool, true, false}
+use mathlib.Core.Bool.{Bool, true}
 use mathlib.Core.Logic.{_⊎_, inl, inr}
-use Prim.Native.Nat.{ℕ, _+_, _*_, _≤_, _<_}
-use native.Mathlib.Omega.{arith}
+use Prim.Native.Nat.{ℕ, _+_, _*_, _≤_}
 use lib.ListN.{length, length-map}
 use Rattle.std.specs.Orderings.{Decides}
 use Rattle.std.proofs.shelf.Ways.{decides-like}
-use Rattle.network.specs.Chart.{Chart, Step, Fit}
+use Rattle.network.specs.Chart.{Chart, Fit}
 use Rattle.network.specs.Walk.{Walk, Leads}
-use Rattle.network.specs.Move.{Move, moveFrom, moveTo, permits, moves}
+use Rattle.network.specs.Move.{Move, moveFrom, moveTo, moves}
 use Rattle.network.specs.Arc.{moveOf, arcOf, numbered, AsMoves}
 use Rattle.network.proofs.Walks.{walk-push}
 use Rattle.network.proofs.Arcs.{move-steps, numbered-are-moves}
@@ -38,7 +37,7 @@ module _ (C : Chart) (may : ℕ → Bool) (fit : Fit C) where
   found-source = decides-found (C .source) .1 ([], refl)
 
   -- a move from a step that is found leads to one that is found
-  pub found-more : (x : Move) → permits C may x ≡ true → found (moveFrom C x) ≡ true → found (moveTo C x) ≡ true
+  pub found-more : (x : Move) → moves C may .passable x ≡ true → found (moveFrom C x) ≡ true → found (moveTo C x) ≡ true
   found-more x p e =
       let r = decides-found (moveFrom C x) .0 e in
       decides-found (moveTo C x) .1 (r .0 ++ (x ∷ []), walk-push (moves C may) (C .source) (r .0) x (r .1) p)
@@ -55,7 +54,7 @@ module _ (C : Chart) (may : ℕ → Bool) (fit : Fit C) where
   unfolding far
   far-source = dist-start finite
 
-  pub far-more : (x : Move) → permits C may x ≡ true → far (moveTo C x) ≤ far (moveFrom C x) + 1
+  pub far-more : (x : Move) → moves C may .passable x ≡ true → far (moveTo C x) ≤ far (moveFrom C x) + 1
   unfolding far
   far-more x p =
       let d = dist-more finite (arcOf x) in

@@ -1,25 +1,24 @@
 -- Moving an amount along an open way: each feed is used at most once, the inner steps stay balanced, and by the least
 -- spare no price is exceeded.
-use mathlib.Core.Path.{_≡_, refl, sym, _∙_, ap, ap₂, subst}
+use mathlib.Core.Path.{_≡_, refl, sym, _∙_, ap, subst}
 use mathlib.Core.List.{List, [], _∷_}
-use mathlib.Core.Bool.{Bool, true, false, _&&_, _||_, cond}
+use mathlib.Core.Bool.{Bool, true, false, cond}
 use mathlib.Core.Logic.{_⊎_, inl, inr}
-use Prim.Native.Nat.{ℕ, _≤_, _<_}
+use Prim.Native.Nat.{ℕ, _<_}
 use native.Mathlib.Omega.{arith}
-use lib.Dec.{eqb, ltb}
+use lib.Dec.{eqb}
 use lib.IntN.{ℤ, pos, _+ℤ_, _-ℤ_, negℤ}
-use lib.Signed.{_≤ℤ_, _<ℤ_, ltZ}
+use lib.Signed.{_<ℤ_, ltZ}
 use Rattle.std.proofs.shelf.Signed.{ints}
-use Rattle.std.proofs.shelf.Tests.{cases-eq, ne-eqb, eq-eqb, and-parts, or-cases, both-ways}
-use Rattle.network.specs.Chart.{Chart, Step, Fit}
+use Rattle.std.proofs.shelf.Tests.{cases-eq, ne-eqb, eq-eqb, or-cases, both-ways}
+use Rattle.network.specs.Chart.{Chart, Fit}
 use Rattle.network.specs.Walk.{Walk, met, In, Distinct}
-use Rattle.network.specs.Sum.{sum, sumOver}
 use Rattle.network.specs.Move.{Move, forward, backward, moveFeed, moveFrom, moveTo, moves, hasSpare, openMoves}
 use Rattle.network.specs.Flow.{outflow, inflow, Conserved, WithinPrices, Flow, Within, value}
 use Rattle.network.specs.Raise.{OpenWay, LeastSpare, spare, change, carried, along}
-use Rattle.network.specs.Laws.{RaisedWell, RaiseKeepsFlow}
+use Rattle.network.specs.Laws.{RaiseKeepsFlow}
 use Rattle.network.proofs.Walks.{walk-passable, met-ends}
-use Rattle.network.proofs.Arcs.{move-feed}
+use Rattle.network.proofs.Arcs.{move-feed, forward-may}
 use Rattle.network.proofs.Sums.{sumOver-zero, sumOver-plus, sumOver-at}
 
 -- whether moves use feed k
@@ -117,9 +116,8 @@ module _ (C : Chart) (fit : Fit C) (f : ℕ → ℤ) (fl : Flow C f) (w : List M
   spare-positive =
       let k = ls .one-is .0 in
       let p = walk-passable (openMoves C f) (C .source) w (C .sink) (ow .0) (forward k) (ls .one-is .1) in
-      let q = and-parts (ltb k (C .count)) (hasSpare C f k) p in
       let e = ls .one-is .3 in
-      elim (or-cases (C .barred k) (ltZ (f k) (C .price k)) (q .1)) [
+      elim (or-cases (C .barred k) (ltZ (f k) (C .price k)) (forward-may C (hasSpare C f) k p)) [
         | inl h ↦ absurd (both-ways (C .barred k) (ls .one-is .2) h)
         | inr h ↦ omega (arith, ints)
       ]

@@ -1,22 +1,22 @@
 -- A shortest open way is left, or the border can be closed; and an open way has a least spare.
 use mathlib.Core.Path.{_≡_, refl, sym, _∙_, ap}
 use mathlib.Core.List.{List, [], _∷_}
-use mathlib.Core.Bool.{Bool, true, false, _&&_}
-use mathlib.Core.Logic.{_⊎_, inl, inr, _↔_}
+use mathlib.Core.Bool.{true, false}
+use mathlib.Core.Logic.{_⊎_, inl, inr}
 use Prim.Native.Nat.{ℕ, _≤_}
 use native.Mathlib.Omega.{arith}
-use lib.Dec.{ltb}
-use lib.IntN.{ℤ, _-ℤ_}
+use lib.IntN.{ℤ}
 use lib.Signed.{_≤ℤ_}
 use Rattle.std.proofs.shelf.Signed.{ints, by-ltZ}
-use Rattle.std.proofs.shelf.Tests.{cases-bool, and-parts, and-from, both-ways}
+use Rattle.std.proofs.shelf.Tests.{cases-bool, both-ways}
 use Rattle.network.specs.Chart.{Chart, Fit}
 use Rattle.network.specs.Walk.{Walk, In}
 use Rattle.network.specs.Move.{Move, forward, backward, moveFeed, hasSpare, openMoves, unlimitedMoves}
-use Rattle.network.specs.Flow.{Reached, Closed}
+use Rattle.network.specs.Flow.{Reached}
 use Rattle.network.specs.Raise.{ShortestLeft, LeastSpare, spare}
 use Rattle.network.specs.Laws.{RaiseOrClose, LeastSpareExists}
 use Rattle.network.proofs.Walks.{walk-passable}
+use Rattle.network.proofs.Arcs.{move-feed, forward-passes, forward-may}
 use Rattle.network.proofs.Moves.{found, decides-found, far, far-source, far-more, far-walk}
 use Rattle.network.proofs.Heights.{rise, rising-distinct}
 
@@ -36,10 +36,13 @@ pub raise-or-close : RaiseOrClose
 raise-or-close C fit f = (
   elim (cases-bool (found C (hasSpare C f) fit (C .sink))) [
     | inl e ↦ inl (shortest-left C fit f (decides-found C (hasSpare C f) fit (C .sink) .0 e))
-    | inr e ↦ inr (found C (hasSpare C f) fit, record {
-      sink-apart = λ r. both-ways (found C (hasSpare C f) fit (C .sink)) e (decides-found C (hasSpare C f) fit (C .sink) .1 r);
-      early-reached = λ v s. decides-found C (hasSpare C f) fit v;
-    })
+    | inr e ↦ inr (
+      found C (hasSpare C f) fit,
+      record {
+        sink-apart = λ r. both-ways (found C (hasSpare C f) fit (C .sink)) e (decides-found C (hasSpare C f) fit (C .sink) .1 r);
+        early-reached = λ v s. decides-found C (hasSpare C f) fit v;
+      },
+    )
   ],
   (λ o c. c .1 .sink-apart (o .0, o .1 .0)),
 )
@@ -78,9 +81,9 @@ least-spare C f a (forward j ∷ w) b h = go (cases-bool (C .barred j)) (least-s
     }
 
     go : (C .barred j ≡ true) ⊎ (C .barred j ≡ false) → Walk (unlimitedMoves C) (C .to j) w b ⊎ ((s : ℤ) × LeastSpare C f w s) → Walk (unlimitedMoves C) a (forward j ∷ w) b ⊎ ((s : ℤ) × LeastSpare C f (forward j ∷ w) s)
-    go (inl t) (inl u) = inl (and-from (ltb j (C .count)) (C .barred j) (and-parts (ltb j (C .count)) _ (h .0) .0) t, h .1, u)
+    go (inl t) (inl u) = inl (forward-passes C (C .barred) j (move-feed C (hasSpare C f) (forward j) (h .0)) t, h .1, u)
     go (inl t) (inr r) = inr (r .0, extend C f (forward j) w (r .0) (r .1) (λ k e n. absurd (both-ways (C .barred k) n (ap (λ x. C .barred (moveFeed x)) (sym e) ∙ t))))
-    go (inr n) (inl u) = inr (spare C f j, first n (λ k i c. absurd (both-ways (C .barred k) c (and-parts (ltb k (C .count)) (C .barred k) (walk-passable (unlimitedMoves C) (C .to j) w b u (forward k) i) .1))))
+    go (inr n) (inl u) = inr (spare C f j, first n (λ k i c. absurd (both-ways (C .barred k) c (forward-may C (C .barred) k (walk-passable (unlimitedMoves C) (C .to j) w b u (forward k) i)))))
     go (inr n) (inr r) = by-ltZ (r .0) (spare C f j)
         (λ l. inr (r .0, extend C f (forward j) w (r .0) (r .1) (λ k e c. let q = same k e in omega (arith, ints))))
         (λ l. inr (spare C f j, first n (λ k i c. let q = r .1 .at-most k i c in omega (arith, ints))))

@@ -1,7 +1,7 @@
 -- What flows across a border is the value, so the value is at most the cost of an allowed border.
 use mathlib.Core.Path.{_≡_, refl, sym, _∙_, ap, ap₂}
 use mathlib.Core.Bool.{Bool, true, false, not, _&&_, cond}
-use mathlib.Core.Logic.{_⊎_, inl, inr}
+use mathlib.Core.Logic.{inl, inr}
 use Prim.Native.Nat.{ℕ, suc, _-_, _≤_, _<_}
 use native.Mathlib.Omega.{arith}
 use lib.Dec.{eqb}
@@ -9,9 +9,9 @@ use lib.IntN.{ℤ, pos, _-ℤ_}
 use lib.Signed.{_≤ℤ_}
 use Rattle.std.proofs.shelf.Signed.{ints}
 use Rattle.std.proofs.shelf.Tests.{cases-eq, ne-eqb, eq-eqb}
-use Rattle.network.specs.Chart.{Chart, Step, Fit}
+use Rattle.network.specs.Chart.{Chart, Fit}
 use Rattle.network.specs.Sum.{sum, sumOver}
-use Rattle.network.specs.Border.{Border, kept, runsBack, NoneBack, KeptUnbarred, Allowed}
+use Rattle.network.specs.Border.{Border, kept, runsBack, NoneBack, KeptUnbarred}
 use Rattle.network.specs.Flow.{outflow, inflow, Flow, value}
 use Rattle.network.specs.Laws.{ValueAcross, ValueAtMostCost}
 use Rattle.network.proofs.Sums.{cond-zero, sum-same, sum-zero, sum-minus, sum-le, sum-at, sum-swap, sum-cond}

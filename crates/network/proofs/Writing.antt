@@ -1,8 +1,8 @@
 -- Writing a list of flows, one entry for each move, is the raise.
-use mathlib.Core.Path.{_≡_, refl, sym, _∙_, ap}
+use mathlib.Core.Path.{_≡_, refl, sym}
 use mathlib.Core.List.{List, [], _∷_}
 use mathlib.Core.Bool.{cond}
-use mathlib.Core.Logic.{_⊎_, inl, inr}
+use mathlib.Core.Logic.{inl, inr}
 use Prim.Native.Nat.{ℕ, _<_}
 use native.Mathlib.Omega.{arith}
 use lib.Dec.{eqb}
@@ -11,10 +11,8 @@ use lib.ListN.{length, getD, set, length-set}
 use lib.Seq.{getD-set-same, getD-set-other}
 use Rattle.std.proofs.shelf.Signed.{ints}
 use Rattle.std.proofs.shelf.Tests.{cases-eq, eq-eqb, ne-eqb}
-use Rattle.network.specs.Walk.{In}
-use Rattle.network.specs.Move.{Move, moveFeed}
-use Rattle.network.specs.Raise.{change, carried}
-use Rattle.network.specs.Arc.{written}
+use Rattle.network.specs.Move.{moveFeed}
+use Rattle.network.specs.Raise.{change}
 use Rattle.network.specs.Laws.{WrittenIsAlong}
 
 -- one entry

@@ -8,7 +8,7 @@ use lib.IntN.{ℤ, pos, _+ℤ_}
 use lib.ListN.{getD, set}
 use Rattle.network.specs.Chart.{Chart}
 use Rattle.network.specs.Walk.{Map, Walk, met}
-use Rattle.network.specs.Move.{Move, forward, backward, moveFeed, moveFrom, moveTo, permits, moves}
+use Rattle.network.specs.Move.{Move, forward, backward, moveFeed, moveFrom, moveTo, moves}
 use Rattle.network.specs.Raise.{change}
 
 -- arc 2k is feed k forward, and arc 2k + 1 is feed k backward
@@ -21,7 +21,7 @@ arcOf (backward k) = 2 * k + 1
 
 -- the map of moves, its arcs by number
 abbrev pub numbered : Chart → (ℕ → Bool) → Map ℕ
-numbered C may = record { from = λ j. moveFrom C (moveOf j); to = λ j. moveTo C (moveOf j); passable = λ j. permits C may (moveOf j) }
+numbered C may = record { from = λ j. moveFrom C (moveOf j); to = λ j. moveTo C (moveOf j); passable = λ j. moves C may .passable (moveOf j) }
 
 -- walks over numbered arcs and walks over moves are the same
 pub record AsMoves (C : Chart) (may : ℕ → Bool) : Type 0 where

@@ -9,7 +9,7 @@ use lib.Signed.{_≤ℤ_}
 use Rattle.network.specs.Chart.{Chart, Step}
 use Rattle.network.specs.Walk.{Leads}
 use Rattle.network.specs.Sum.{sumOver}
-use Rattle.network.specs.Border.{Border, Allowed, cost, earlySteps}
+use Rattle.network.specs.Border.{Allowed, cost, earlySteps}
 use Rattle.network.specs.Move.{openMoves}
 
 -- flows give each feed k an integer `f k`, which may be negative

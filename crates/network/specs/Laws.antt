@@ -1,16 +1,16 @@
 -- What is proved of charts, borders, flows and raises.
 use mathlib.Core.Path.{_≡_}
 use mathlib.Core.List.{List}
-use mathlib.Core.Bool.{Bool, true, false}
+use mathlib.Core.Bool.{Bool}
 use mathlib.Core.Logic.{_⊎_, _↔_}
 use Prim.Native.Nat.{ℕ, _*_, _≤_, _<_}
 use lib.IntN.{ℤ, pos, _+ℤ_, _-ℤ_}
 use lib.Signed.{_≤ℤ_, _<ℤ_}
 use lib.ListN.{length, getD}
 use Rattle.network.specs.Chart.{Chart, Step, Fit, Limited}
-use Rattle.network.specs.Walk.{Map, Walk, Leads, In, reversed}
+use Rattle.network.specs.Walk.{Leads, In, reversed}
 use Rattle.network.specs.Sum.{sum, sumOver}
-use Rattle.network.specs.Border.{feedsForward, OnWay, AllOnWays, Border, kept, runsBack, cost, CrossedOnce, CrossedUnbarred, NoneBack, KeptUnbarred, Allowed, Proper, Best}
+use Rattle.network.specs.Border.{feedsForward, OnWay, AllOnWays, Border, kept, runsBack, cost, CrossedOnce, CrossedUnbarred, NoneBack, KeptUnbarred, Allowed, Best}
 use Rattle.network.specs.Move.{Move, moveFeed, UnlimitedWay, NoneAllowed, AlwaysBarred}
 use Rattle.network.specs.Flow.{Flow, Within, value, Closed, CanClose, Cheapest}
 use Rattle.network.specs.Raise.{OpenWay, OpenWayLeft, ShortestLeft, LeastSpare, along, Raises, totalRaised}

@@ -27,12 +27,12 @@ moveTo C (forward k) = C .to k
 moveTo C (backward k) = C .from k
 
 -- one may move forward where `may` says so, and backward always
-abbrev pub permits : Chart → (ℕ → Bool) → Move → Bool
-permits C may (forward k) = ltb k (C .count) && may k
-permits C may (backward k) = ltb k (C .count)
+abbrev pub permits : (ℕ → Bool) → Move → Bool
+permits may (forward k) = may k
+permits may (backward k) = true
 
 abbrev pub moves : Chart → (ℕ → Bool) → Map Move
-moves C may = record { from = moveFrom C; to = moveTo C; passable = permits C may }
+moves C may = record { from = moveFrom C; to = moveTo C; passable = λ x. ltb (moveFeed x) (C .count) && permits may x }
 
 -- moves without limit: forward along barred feeds, backward along all
 abbrev pub unlimitedMoves : Chart → Map Move

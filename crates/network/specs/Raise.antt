@@ -5,12 +5,11 @@ use mathlib.Core.Bool.{false, cond}
 use Prim.Native.Nat.{ℕ, suc, _≤_, _<_}
 use lib.Dec.{eqb}
 use lib.IntN.{ℤ, pos, _+ℤ_, _-ℤ_, negℤ}
-use lib.Signed.{_≤ℤ_, _<ℤ_}
+use lib.Signed.{_≤ℤ_}
 use lib.ListN.{length}
 use Rattle.network.specs.Chart.{Chart}
 use Rattle.network.specs.Walk.{In, Road}
 use Rattle.network.specs.Move.{Move, forward, backward, moveFeed, openMoves}
-use Rattle.network.specs.Flow.{Flow, value}
 
 -- from source to sink by open moves, meeting no step twice (an augmenting path)
 abbrev pub OpenWay : Chart → (ℕ → ℤ) → List Move → Type 0
