@@ -1,17 +1,18 @@
 -- Which moves pass; and numbered arcs have the same walks as moves.
-use mathlib.Core.Path.{_≡_, refl, ap}
+use mathlib.Core.Path.{_≡_, refl, ap, subst}
 use mathlib.Core.List.{List, [], _∷_, map}
 use mathlib.Core.Bool.{Bool, true}
 use mathlib.Core.Logic.{inl, inr}
 use Prim.Native.Nat.{ℕ, _+_, _*_, _/_, _%_, _<_}
 use native.Mathlib.Omega.{arith}
 use lib.Dec.{ltb}
+use lib.ListN.{length, length-map}
 use Rattle.std.proofs.shelf.Tests.{ltb-true, lt-ltb, and-from, and-parts, cases-eq, eq-eqb, ne-eqb}
 use Rattle.network.specs.Chart.{Chart, Step, Fit}
-use Rattle.network.specs.Walk.{Walk, met}
-use Rattle.network.specs.Move.{Move, forward, backward, moveFeed, moveFrom, moveTo, permits, moves}
+use Rattle.network.specs.Walk.{Walk, met, Distinct}
+use Rattle.network.specs.Move.{Move, forward, backward, moveFeed, moveFrom, moveTo, permits, moves, hasSpare}
 use Rattle.network.specs.Arc.{moveOf, arcOf, numbered}
-use Rattle.network.specs.Laws.{NumberedAreMoves}
+use Rattle.network.specs.Laws.{NumberedAreMoves, FewestIsShortest}
 
 move-of-arc : (x : Move) → moveOf (arcOf x) ≡ x
 move-of-arc (forward k) =
@@ -73,3 +74,13 @@ numbered-are-moves C may = record {
   to-arcs = to-arcs C may;
   same-steps = same-steps C may;
 }
+
+pub fewest-is-shortest : FewestIsShortest
+fewest-is-shortest C f js road fewest =
+    let same = numbered-are-moves C (hasSpare C f) in (
+      (same .to-moves (C .source) js (C .sink) (road .0), subst Distinct (same .same-steps (C .source) js) (road .1)),
+      (λ u o. let l = fewest (map arcOf u) (same .to-arcs (C .source) u (C .sink) (o .0)) in
+          let a : length (map arcOf u) ≡ length u = length-map u arcOf in
+          let b : length (map moveOf js) ≡ length js = length-map js moveOf in
+          omega arith),
+    )

@@ -5,7 +5,7 @@ use mathlib.Core.Logic.{_⊎_, inl, inr}
 use Prim.Native.Nat.{ℕ, _<_}
 use native.Mathlib.Omega.{arith}
 use Rattle.std.proofs.shelf.Tests.{cases-bool, both-ways}
-use Rattle.network.specs.Chart.{Chart, Fit}
+use Rattle.network.specs.Chart.{Chart, Fit, Sides}
 use Rattle.network.specs.Border.{kept, runsBack, NoneBack, Allowed}
 use Rattle.network.specs.Move.{Move, forward, backward, moveFrom, moveTo, unlimitedMoves, UnlimitedWay}
 use Rattle.network.specs.Laws.{UnlimitedIsNoneAllowed, UnlimitedIsAlwaysBarred}
@@ -16,17 +16,17 @@ use Rattle.network.proofs.Reach.{some, decides-some}
 use Rattle.network.proofs.Moves.{found, decides-found, found-source, found-more}
 
 -- what stands against a border
-Against : Chart → (ℕ → Bool) → ℕ → Type 0
+Against : Chart → Sides → ℕ → Type 0
 Against C early k = (runsBack C early k ≡ true) ⊎ ((kept C early k ≡ true) × (C .barred k ≡ true))
 
 -- a move without limit from early to late is along such a feed
-against : (C : Chart) (early : ℕ → Bool) (x : Move) → unlimitedMoves C .passable x ≡ true → early (moveFrom C x) ≡ true → early (moveTo C x) ≡ false → (k : ℕ) × (k < C .count) × Against C early k
+against : (C : Chart) (early : Sides) (x : Move) → unlimitedMoves C .passable x ≡ true → early (moveFrom C x) ≡ true → early (moveTo C x) ≡ false → (k : ℕ) × (k < C .count) × Against C early k
 unfolding Against
 against C early (forward k) p e l = (k, move-feed C (C .barred) (forward k) p, inr (grind arith, forward-may C (C .barred) k p))
 against C early (backward k) p e l = (k, move-feed C (C .barred) (backward k) p, inl (grind arith))
 
 -- the steps that moves without limit reach, where the sink is none of them
-pub some-allowed : (C : Chart) → Fit C → (UnlimitedWay C → ⊥) → (early : ℕ → Bool) × Allowed C early
+pub some-allowed : (C : Chart) → Fit C → (UnlimitedWay C → ⊥) → (early : Sides) × Allowed C early
 some-allowed C fit none =
     let e = found C (C .barred) fit in
     let late : e (C .sink) ≡ false = elim (cases-bool (e (C .sink))) [ inl h ↦ absurd (none (decides-found C (C .barred) fit (C .sink) .0 h)) | inr h ↦ h ] in
@@ -57,7 +57,7 @@ unlimited-is-none-allowed C fit = (
 )
 
 -- a feed that runs back, or none
-back-or-none : (C : Chart) (early : ℕ → Bool) → ((k : ℕ) × (k < C .count) × (runsBack C early k ≡ true)) ⊎ NoneBack C early
+back-or-none : (C : Chart) (early : Sides) → ((k : ℕ) × (k < C .count) × (runsBack C early k ≡ true)) ⊎ NoneBack C early
 back-or-none C early =
     elim (cases-bool (some (C .count) (runsBack C early))) [
       | inl e ↦ inl (decides-some (C .count) (runsBack C early) .0 e)

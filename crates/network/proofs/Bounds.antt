@@ -8,7 +8,7 @@ use lib.Dec.{eqb}
 use lib.IntN.{ℤ, pos, _+ℤ_, _-ℤ_}
 use lib.Signed.{_≤ℤ_}
 use Rattle.std.proofs.shelf.Signed.{ints}
-use Rattle.network.specs.Chart.{Chart}
+use Rattle.network.specs.Chart.{Chart, Flows}
 use Rattle.network.specs.Sum.{sum}
 use Rattle.network.specs.Border.{kept}
 use Rattle.network.specs.Flow.{Flow, value}
@@ -20,7 +20,7 @@ use Rattle.network.proofs.Value.{value-at-most-cost}
 use Rattle.network.proofs.Raising.{raise-keeps-flow, raised-near}
 
 -- only the flows of the feeds count
-module _ (C : Chart) (f g : ℕ → ℤ) (e : (k : ℕ) → k < C .count → g k ≡ f k) where
+module _ (C : Chart) (f g : Flows) (e : (k : ℕ) → k < C .count → g k ≡ f k) where
   same-value : value C g ≡ value C f
   same-value = ap₂ (λ x y. x -ℤ y) (sumOver-same C (λ k. eqb (C .from k) (C .source)) g f e) (sumOver-same C (λ k. eqb (C .to k) (C .source)) g f e)
 

@@ -11,7 +11,7 @@ use lib.IntN.{ℤ, pos}
 use lib.Signed.{_≤ℤ_, ltZ}
 use Rattle.std.proofs.shelf.Signed.{ints}
 use Rattle.std.proofs.shelf.Tests.{cases-bool, or-cases, or-parts, both-ways, eqb-true, eq-eqb}
-use Rattle.network.specs.Chart.{Chart, Step, Fit}
+use Rattle.network.specs.Chart.{Chart, Step, Fit, Sides, Flows}
 use Rattle.network.specs.Border.{Border, kept, NoneBack, Allowed, cost}
 use Rattle.network.specs.Move.{Move, forward, backward, moveFrom, moveTo, hasSpare, openMoves}
 use Rattle.network.specs.Flow.{Flow, value, Reached, Closed, Cheapest}
@@ -24,7 +24,7 @@ use Rattle.network.proofs.Arcs.{move-feed, backward-passes, forward-passes, fo
 use Rattle.network.proofs.Value.{kept-carry-value, kept-within, value-at-most-cost}
 
 -- no feed runs back, and the kept feeds are full
-record Saturated (C : Chart) (f : ℕ → ℤ) (early : ℕ → Bool) : Type 0 where
+record Saturated (C : Chart) (f : Flows) (early : Sides) : Type 0 where
   border : Border C early
   none-back : NoneBack C early
   kept-full : KeptFull C f early
@@ -33,8 +33,8 @@ cond-same : (b : Bool) (x y : ℤ) → (b ≡ true → x ≡ y) → cond b x (po
 cond-same true x y h = h refl
 cond-same false x y h = refl
 
-module _ (C : Chart) (fit : Fit C) (f : ℕ → ℤ) (fl : Flow C f) where
-  module _ (early : ℕ → Bool) (sat : Saturated C f early) where
+module _ (C : Chart) (fit : Fit C) (f : Flows) (fl : Flow C f) where
+  module _ (early : Sides) (sat : Saturated C f early) where
     saturated-allowed : Allowed C early
     saturated-allowed = record { border = sat .border; none-back = sat .none-back; kept-unbarred = λ k l e. sat .kept-full k l e .0 }
 
@@ -43,11 +43,11 @@ module _ (C : Chart) (fit : Fit C) (f : ℕ → ℤ) (fl : Flow C f) where
         sym (sum-same (C .count) (λ k. cond (kept C early k) (f k) (pos 0)) (λ k. cond (kept C early k) (C .price k) (pos 0)) (λ k l. cond-same (kept C early k) (f k) (C .price k) (λ e. sat .kept-full k l e .1)))
         ∙ kept-carry-value C fit f fl early (sat .border) (sat .none-back)
 
-    saturated-least : (other : ℕ → Bool) → Allowed C other → cost C early ≤ℤ cost C other
+    saturated-least : (other : Sides) → Allowed C other → cost C early ≤ℤ cost C other
     saturated-least other al = let v = value-at-most-cost C fit f fl other al in let e = saturated-cost in omega (arith, ints)
 
   -- an allowed border that costs the value keeps full feeds, so no open move leaves its early side
-  module _ (other : ℕ → Bool) (al : Allowed C other) (eq : cost C other ≡ value C f) where
+  module _ (other : Sides) (al : Allowed C other) (eq : cost C other ≡ value C f) where
     full : (k : ℕ) → k < C .count → kept C other k ≡ true → ltZ (f k) (C .price k) ≡ true → ⊥
     full k l e s =
         let v = kept-carry-value C fit f fl other (al .border) (al .none-back) in
@@ -70,7 +70,7 @@ module _ (C : Chart) (fit : Fit C) (f : ℕ → ℤ) (fl : Flow C f) where
           | inr e ↦ (let x = walk-leaves (openMoves C f) other (C .source) (r .0) v (r .1) (al .border .0) e in absurd (no-leaving (x .0) (x .1) (x .2) (x .3)))
         ]
 
-  module _ (early : ℕ → Bool) (cl : Closed C f early) where
+  module _ (early : Sides) (cl : Closed C f early) where
     -- an open move from an early step leads to an early step
     stays-early : (x : Move) → openMoves C f .passable x ≡ true → early (moveFrom C x) ≡ true → early (moveTo C x) ≡ true
     stays-early x p e =
@@ -103,7 +103,7 @@ module _ (C : Chart) (fit : Fit C) (f : ℕ → ℤ) (fl : Flow C f) where
       kept-full = closed-full;
     }
 
-    inside : (other : ℕ → Bool) → Allowed C other → cost C other ≡ cost C early → (v : ℕ) → Step C v → early v ≡ true → other v ≡ true
+    inside : (other : Sides) → Allowed C other → cost C other ≡ cost C early → (v : ℕ) → Step C v → early v ≡ true → other v ≡ true
     inside other al e v s h = reached-inside other al (e ∙ saturated-cost early saturated) v (cl .early-reached v s .0 h)
 
     cheapest : Cheapest C f early

@@ -6,7 +6,7 @@ use mathlib.Core.Logic.{inl, inr}
 use Prim.Native.Nat.{ℕ, _+_, _≤_, _<_}
 use native.Mathlib.Omega.{arith}
 use Rattle.std.proofs.shelf.Tests.{ltb-true, lt-ltb}
-use Rattle.network.specs.Chart.{Chart, Fit}
+use Rattle.network.specs.Chart.{Chart, Fit, Sides}
 use Rattle.network.specs.Walk.{Walk, In, reversed}
 use Rattle.network.specs.Border.{feedsForward, Way, AllOnWays, crossings, NoneBack, Allowed, Proper}
 use Rattle.network.specs.Laws.{OnceIsNoneBack, UnbarredIsKept, OnWayIsReached}
@@ -47,7 +47,7 @@ in-middle : (u : List ℕ) (k : ℕ) (w : List ℕ) → In k (u ++ (k ∷ w))
 in-middle [] k w = inl refl
 in-middle (x ∷ u) k w = inr (in-middle u k w)
 
-module _ (C : Chart) (early : ℕ → Bool) where
+module _ (C : Chart) (early : Sides) where
   crossings-join : (u w : List ℕ) → crossings C early (u ++ w) ≡ crossings C early u + crossings C early w
   crossings-join [] w = omega arith
   crossings-join (k ∷ u) w = omega (arith, crossings-join u w)
@@ -97,12 +97,12 @@ unbarred-is-kept C fit on early bd none = (
       ku k l (grind arith)),
 )
 
-pub allowed-from-proper : (C : Chart) → Fit C → AllOnWays C → (early : ℕ → Bool) → Proper C early → Allowed C early
+pub allowed-from-proper : (C : Chart) → Fit C → AllOnWays C → (early : Sides) → Proper C early → Allowed C early
 allowed-from-proper C fit on early p =
     let none = once-is-none-back C fit on early (p .border) .0 (p .once) in
     record { border = p .border; none-back = none; kept-unbarred = unbarred-is-kept C fit on early (p .border) none .0 (p .unbarred) }
 
-pub proper-from-allowed : (C : Chart) → Fit C → AllOnWays C → (early : ℕ → Bool) → Allowed C early → Proper C early
+pub proper-from-allowed : (C : Chart) → Fit C → AllOnWays C → (early : Sides) → Allowed C early → Proper C early
 proper-from-allowed C fit on early al = record {
   border = al .border;
   once = once-is-none-back C fit on early (al .border) .1 (al .none-back);

@@ -11,7 +11,7 @@ use lib.Signed.{_≤ℤ_, _<ℤ_, ltZ}
 use lib.ListN.{length}
 use Rattle.std.proofs.shelf.Signed.{ints}
 use Rattle.std.proofs.shelf.Tests.{cases-bool, or-cases, or-parts, or-from, both-ways}
-use Rattle.network.specs.Chart.{Chart, Fit}
+use Rattle.network.specs.Chart.{Chart, Fit, Flows}
 use Rattle.network.specs.Walk.{In}
 use Rattle.network.specs.Sum.{sum}
 use Rattle.network.specs.Move.{Move, forward, backward, moveFrom, moveTo, hasSpare, openMoves}
@@ -49,20 +49,20 @@ unfolding left
 left-less n o o′ a b a′ b′ p q r s t = rw (p, q) (omega arith)
 
 -- at the flows f
-left-in : (C : Chart) → Fit C → (ℕ → ℤ) → ℕ → ℕ
+left-in : (C : Chart) → Fit C → Flows → ℕ → ℕ
 left-in C fit f k = left (C .steps) (hasSpare C f k) (far C (hasSpare C f) fit (C .from k)) (far C (hasSpare C f) fit (C .to k))
 
-potential : (C : Chart) → Fit C → (ℕ → ℤ) → ℤ
+potential : (C : Chart) → Fit C → Flows → ℤ
 potential C fit f = sum (C .count) (λ k. pos (left-in C fit f k))
 
-potential-low : (C : Chart) (fit : Fit C) (f : ℕ → ℤ) → pos 0 ≤ℤ potential C fit f
+potential-low : (C : Chart) (fit : Fit C) (f : Flows) → pos 0 ≤ℤ potential C fit f
 unfolding potential
 potential-low C fit f =
     let z = sum-zero (C .count) (λ k. pos 0) (λ k l. refl) in
     let h = sum-le (C .count) (λ k. pos 0) (λ k. pos (left-in C fit f k)) (λ k l. omega (arith, ints)) in
     omega (arith, ints)
 
-module _ (C : Chart) (fit : Fit C) (f : ℕ → ℤ) (fl : Flow C f) (a : ℤ) (g : ℕ → ℤ) (s : Raise C f a g) where
+module _ (C : Chart) (fit : Fit C) (f : Flows) (fl : Flow C f) (a : ℤ) (g : Flows) (s : Raise C f a g) where
   d : ℕ → ℕ
   d v = far C (hasSpare C f) fit v
 
@@ -160,7 +160,7 @@ module _ (C : Chart) (fit : Fit C) (f : ℕ → ℤ) (fl : Flow C f) (a : ℤ) (
       sum-less (C .count) (λ k. pos (left-in C fit g k)) (λ k. pos (left-in C fit f k)) (λ k l. let h = none-more k l in omega (arith, ints))
       tight tight-feed (omega (arith, ints))
 
-raises-and-potential : (C : Chart) (fit : Fit C) (n : ℕ) (f : ℕ → ℤ) → Raises C n f → (pos n +ℤ potential C fit f) ≤ℤ pos (C .count * C .steps)
+raises-and-potential : (C : Chart) (fit : Fit C) (n : ℕ) (f : Flows) → Raises C n f → (pos n +ℤ potential C fit f) ≤ℤ pos (C .count * C .steps)
 unfolding potential left-in
 raises-and-potential C fit n f (begun z) =
     let each : (k : ℕ) → k < C .count → pos (left-in C fit f k) ≤ℤ pos (C .steps) =

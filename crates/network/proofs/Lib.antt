@@ -1,7 +1,7 @@
 pub mod Walks
 pub mod Crossings
-pub mod Arcs
 pub mod Sums
+pub mod Arcs
 pub mod Reach
 pub mod Distance
 pub mod Moves

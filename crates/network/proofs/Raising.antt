@@ -11,7 +11,7 @@ use lib.IntN.{ℤ, pos, _+ℤ_, _-ℤ_, negℤ}
 use lib.Signed.{_<ℤ_, ltZ}
 use Rattle.std.proofs.shelf.Signed.{ints}
 use Rattle.std.proofs.shelf.Tests.{cases-eq, ne-eqb, eq-eqb, or-cases, both-ways}
-use Rattle.network.specs.Chart.{Chart, Fit}
+use Rattle.network.specs.Chart.{Chart, Fit, Flows}
 use Rattle.network.specs.Walk.{Walk, met, In, Distinct}
 use Rattle.network.specs.Move.{Move, forward, backward, moveFeed, moveFrom, moveTo, moves, hasSpare, openMoves}
 use Rattle.network.specs.Flow.{outflow, inflow, Conserved, WithinPrices, Flow, Within, value}
@@ -111,7 +111,7 @@ module _ (C : Chart) (may : ℕ → Bool) (a : ℤ) where
       let e : here (moveFrom C x) v ≡ here b v = ap (λ u. here u v) (h .1) in
       omega (arith, ints)
 
-module _ (C : Chart) (fit : Fit C) (f : ℕ → ℤ) (fl : Flow C f) (w : List Move) (ow : OpenWay C f w) (a : ℤ) (ls : LeastSpare C f w a) where
+module _ (C : Chart) (fit : Fit C) (f : Flows) (fl : Flow C f) (w : List Move) (ow : OpenWay C f w) (a : ℤ) (ls : LeastSpare C f w a) where
   pub spare-positive : pos 0 <ℤ a
   spare-positive =
       let k = ls .one-is .0 in

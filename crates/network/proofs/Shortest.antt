@@ -9,7 +9,7 @@ use lib.IntN.{ℤ}
 use lib.Signed.{_≤ℤ_}
 use Rattle.std.proofs.shelf.Signed.{ints, by-ltZ}
 use Rattle.std.proofs.shelf.Tests.{cases-bool, both-ways}
-use Rattle.network.specs.Chart.{Chart, Fit}
+use Rattle.network.specs.Chart.{Chart, Fit, Flows}
 use Rattle.network.specs.Walk.{Walk, In}
 use Rattle.network.specs.Move.{Move, forward, backward, moveFeed, hasSpare, openMoves, unlimitedMoves}
 use Rattle.network.specs.Flow.{Reached}
@@ -21,7 +21,7 @@ use Rattle.network.proofs.Moves.{found, decides-found, far, far-source, far-mo
 use Rattle.network.proofs.Heights.{rise, rising-distinct}
 
 -- open moves to the sink as many as its distance are a shortest open way
-shortest-left : (C : Chart) → Fit C → (f : ℕ → ℤ) → Reached C f (C .sink) → ShortestLeft C f
+shortest-left : (C : Chart) → Fit C → (f : Flows) → Reached C f (C .sink) → ShortestLeft C f
 shortest-left C fit f r =
     let d = far C (hasSpare C f) fit in
     let slow = far-more C (hasSpare C f) fit in
@@ -51,14 +51,14 @@ pub not-both : (j k : ℕ) → backward j ≡ forward k → ⊥
 not-both j k e = let z : _≡_ {A = ℕ} 0 1 = cc in omega arith
 
 -- one more move at the front, whose spare is no less
-extend : (C : Chart) (f : ℕ → ℤ) (x : Move) (w : List Move) (a : ℤ) → LeastSpare C f w a → ((k : ℕ) → x ≡ forward k → C .barred k ≡ false → a ≤ℤ spare C f k) → LeastSpare C f (x ∷ w) a
+extend : (C : Chart) (f : Flows) (x : Move) (w : List Move) (a : ℤ) → LeastSpare C f w a → ((k : ℕ) → x ≡ forward k → C .barred k ≡ false → a ≤ℤ spare C f k) → LeastSpare C f (x ∷ w) a
 extend C f x w a ls head = record {
   at-most = λ k i b. elim i [ inl e ↦ head k e b | inr j ↦ ls .at-most k j b ];
   one-is = (ls .one-is .0, inr (ls .one-is .1), ls .one-is .2, ls .one-is .3);
 }
 
 -- open moves have a least spare, or all are without limit
-least-spare : (C : Chart) (f : ℕ → ℤ) (a : ℕ) (w : List Move) (b : ℕ) → Walk (openMoves C f) a w b → Walk (unlimitedMoves C) a w b ⊎ ((s : ℤ) × LeastSpare C f w s)
+least-spare : (C : Chart) (f : Flows) (a : ℕ) (w : List Move) (b : ℕ) → Walk (openMoves C f) a w b → Walk (unlimitedMoves C) a w b ⊎ ((s : ℤ) × LeastSpare C f w s)
 least-spare C f a [] b h = inl h
 least-spare C f a (backward j ∷ w) b h =
     elim (least-spare C f (C .from j) w b (h .2)) [

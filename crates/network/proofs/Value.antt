@@ -9,7 +9,7 @@ use lib.IntN.{ℤ, pos, _-ℤ_}
 use lib.Signed.{_≤ℤ_}
 use Rattle.std.proofs.shelf.Signed.{ints}
 use Rattle.std.proofs.shelf.Tests.{cases-eq, ne-eqb, eq-eqb}
-use Rattle.network.specs.Chart.{Chart, Fit}
+use Rattle.network.specs.Chart.{Chart, Fit, Sides, Flows}
 use Rattle.network.specs.Sum.{sum, sumOver}
 use Rattle.network.specs.Border.{Border, kept, runsBack, NoneBack, KeptUnbarred}
 use Rattle.network.specs.Flow.{outflow, inflow, Flow, value}
@@ -25,7 +25,7 @@ cond-le true x y h = h refl
 cond-le false x y h = omega (arith, ints)
 
 -- what early steps send out, or take in, is what the feeds that start, or end, at them carry
-gather : (n m : ℕ) (end : ℕ → ℕ) → ((k : ℕ) → k < m → (1 ≤ end k) × (end k ≤ n)) → (early : ℕ → Bool) (f : ℕ → ℤ)
+gather : (n m : ℕ) (end : ℕ → ℕ) → ((k : ℕ) → k < m → (1 ≤ end k) × (end k ≤ n)) → (early : Sides) (f : Flows)
     → sum n (λ i. cond (early (suc i)) (sum m (λ k. cond (eqb (end k) (suc i)) (f k) (pos 0))) (pos 0)) ≡ sum m (λ k. cond (early (end k)) (f k) (pos 0))
 gather n m end st early f =
     sum-same n _ _ (λ i l. sum-cond m (early (suc i)) (λ k. cond (eqb (end k) (suc i)) (f k) (pos 0)))
@@ -46,7 +46,7 @@ ends true false z = omega (arith, ints)
 ends false true z = omega (arith, ints)
 ends false false z = omega (arith, ints)
 
-module _ (C : Chart) (fit : Fit C) (f : ℕ → ℤ) (early : ℕ → Bool) where
+module _ (C : Chart) (fit : Fit C) (f : Flows) (early : Sides) where
   net : ℕ → ℤ
   net i = cond (early (suc i)) (outflow C f (suc i) -ℤ inflow C f (suc i)) (pos 0)
 
@@ -89,14 +89,14 @@ pub value-across : ValueAcross
 value-across C fit f fl early bd = across-by-ends C fit f early ∙ sym (net-by-ends C fit f early) ∙ net-is-value C fit f early fl bd
 
 -- where no feed runs back, the kept feeds carry the value
-pub kept-carry-value : (C : Chart) → Fit C → (f : ℕ → ℤ) → Flow C f → (early : ℕ → Bool) → Border C early → NoneBack C early → sumOver C (kept C early) f ≡ value C f
+pub kept-carry-value : (C : Chart) → Fit C → (f : Flows) → Flow C f → (early : Sides) → Border C early → NoneBack C early → sumOver C (kept C early) f ≡ value C f
 kept-carry-value C fit f fl early bd none =
     let a = value-across C fit f fl early bd in
     let z : sumOver C (runsBack C early) f ≡ pos 0 = sum-zero (C .count) (λ k. cond (runsBack C early k) (f k) (pos 0)) (λ k l. rw (none k l)) in
     omega (arith, ints)
 
 -- a kept feed carries at most its price
-pub kept-within : (C : Chart) (f : ℕ → ℤ) → Flow C f → (early : ℕ → Bool) → KeptUnbarred C early → (k : ℕ) → k < C .count → cond (kept C early k) (f k) (pos 0) ≤ℤ cond (kept C early k) (C .price k) (pos 0)
+pub kept-within : (C : Chart) (f : Flows) → Flow C f → (early : Sides) → KeptUnbarred C early → (k : ℕ) → k < C .count → cond (kept C early k) (f k) (pos 0) ≤ℤ cond (kept C early k) (C .price k) (pos 0)
 kept-within C f fl early ku k l = cond-le (kept C early k) (f k) (C .price k) (λ e. fl .within-prices k l (ku k l e))
 
 pub value-at-most-cost : ValueAtMostCost

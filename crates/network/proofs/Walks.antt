@@ -6,6 +6,7 @@ use mathlib.Core.Logic.{inl, inr}
 use Prim.Native.Nat.{ℕ}
 use native.Mathlib.Omega.{arith}
 use Rattle.std.proofs.shelf.Tests.{cases-bool}
+use Rattle.network.specs.Chart.{Sides}
 use Rattle.network.specs.Walk.{Map, Walk, Leads, met, In, reversed}
 
 module _ {A : Type 0} (M : Map A) where
@@ -46,7 +47,7 @@ module _ {A : Type 0} (M : Map A) where
       ((x ∷ r .0 .0, (h .0, h .1, r .0 .1)), r .1)
 
   -- a walk from early to late has an arc from early to late
-  pub walk-leaves : (early : ℕ → Bool) (a : ℕ) (w : List A) (b : ℕ) → Walk M a w b → early a ≡ true → early b ≡ false
+  pub walk-leaves : (early : Sides) (a : ℕ) (w : List A) (b : ℕ) → Walk M a w b → early a ≡ true → early b ≡ false
       → (x : A) × (M .passable x ≡ true) × (early (M .from x) ≡ true) × (early (M .to x) ≡ false)
   walk-leaves early a [] b h p q = absurd (grind arith)
   walk-leaves early a (x ∷ w) b h p q =

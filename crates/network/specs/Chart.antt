@@ -35,3 +35,11 @@ pub record Fit (C : Chart) : Type 0 where
 pub record Limited (largest : ℕ) (C : Chart) : Type 0 where
   pub few : C .count ≤ 4096
   pub price-high : (k : ℕ) → k < C .count → C .price k ≤ℤ pos largest
+
+-- sides of the steps: `early v` where step v is early, else it is late (a division of the nodes in two)
+abbrev pub Sides : Type 0
+Sides = ℕ → Bool
+
+-- flows of the feeds: `f k` is feed k's, and may be negative
+abbrev pub Flows : Type 0
+Flows = ℕ → ℤ

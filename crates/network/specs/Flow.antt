@@ -6,30 +6,28 @@ use Prim.Native.Nat.{ℕ, _≤_, _<_}
 use lib.Dec.{eqb}
 use lib.IntN.{ℤ, _-ℤ_, negℤ}
 use lib.Signed.{_≤ℤ_}
-use Rattle.network.specs.Chart.{Chart, Step}
+use Rattle.network.specs.Chart.{Chart, Step, Sides, Flows}
 use Rattle.network.specs.Walk.{Leads}
 use Rattle.network.specs.Sum.{sumOver}
 use Rattle.network.specs.Border.{Allowed, cost, earlySteps}
 use Rattle.network.specs.Move.{openMoves}
 
--- flows give each feed k an integer `f k`, which may be negative
-
-abbrev pub outflow : Chart → (ℕ → ℤ) → ℕ → ℤ
+abbrev pub outflow : Chart → Flows → ℕ → ℤ
 outflow C f v = sumOver C (λ k. eqb (C .from k) v) f
 
-abbrev pub inflow : Chart → (ℕ → ℤ) → ℕ → ℤ
+abbrev pub inflow : Chart → Flows → ℕ → ℤ
 inflow C f v = sumOver C (λ k. eqb (C .to k) v) f
 
 -- at each step but source and sink as much flows in as out
-abbrev pub Conserved : Chart → (ℕ → ℤ) → Type 0
+abbrev pub Conserved : Chart → Flows → Type 0
 Conserved C f = (v : ℕ) → Step C v → (v ≡ C .source → ⊥) → (v ≡ C .sink → ⊥) → inflow C f v ≡ outflow C f v
 
 -- no unbarred feed carries more than its price; a flow has no lower limit
-abbrev pub WithinPrices : Chart → (ℕ → ℤ) → Type 0
+abbrev pub WithinPrices : Chart → Flows → Type 0
 WithinPrices C f = (k : ℕ) → k < C .count → C .barred k ≡ false → f k ≤ℤ C .price k
 
 -- a flow of the network where backward moves have no limit
-pub record Flow (C : Chart) (f : ℕ → ℤ) : Type 0 where
+pub record Flow (C : Chart) (f : Flows) : Type 0 where
   pub conserved : Conserved C f
   pub within-prices : WithinPrices C f
 
@@ -38,25 +36,27 @@ abbrev pub Within : ℤ → ℤ → Type 0
 Within b z = (negℤ b ≤ℤ z) × (z ≤ℤ b)
 
 -- what leaves the source, less what comes back to it
-abbrev pub value : Chart → (ℕ → ℤ) → ℤ
+abbrev pub value : Chart → Flows → ℤ
 value C f = outflow C f (C .source) -ℤ inflow C f (C .source)
 
 -- open moves lead from the source to step v
-abbrev pub Reached : Chart → (ℕ → ℤ) → ℕ → Type 0
+abbrev pub Reached : Chart → Flows → ℕ → Type 0
 Reached C f v = Leads (openMoves C f) (C .source) v
 
 -- the early steps are exactly those that open moves reach, and the sink is none of them
-pub record Closed (C : Chart) (f : ℕ → ℤ) (early : ℕ → Bool) : Type 0 where
+pub record Closed (C : Chart) (f : Flows) (early : Sides) : Type 0 where
   pub sink-apart : Reached C f (C .sink) → ⊥
   pub early-reached : (v : ℕ) → Step C v → (early v ≡ true) ↔ Reached C f v
 
-abbrev pub CanClose : Chart → (ℕ → ℤ) → Type 0
-CanClose C f = (early : ℕ → Bool) × Closed C f early
+abbrev pub CanClose : Chart → Flows → Type 0
+CanClose C f = (early : Sides) × Closed C f early
 
--- what a closed border is, by its feeds
-pub record Cheapest (C : Chart) (f : ℕ → ℤ) (early : ℕ → Bool) : Type 0 where
+-- an allowed border that costs the value: none costs less, and it lies inside every other that costs the same
+pub record Cheapest (C : Chart) (f : Flows) (early : Sides) : Type 0 where
   pub allowed : Allowed C early
   pub cost-is-value : cost C early ≡ value C f
-  pub no-cheaper : (other : ℕ → Bool) → Allowed C other → cost C early ≤ℤ cost C other
-  pub inside : (other : ℕ → Bool) → Allowed C other → cost C other ≡ cost C early → (v : ℕ) → Step C v → early v ≡ true → other v ≡ true
-  pub fewest : (other : ℕ → Bool) → Allowed C other → cost C other ≡ cost C early → earlySteps C early ≤ earlySteps C other
+  pub no-cheaper : (other : Sides) → Allowed C other → cost C early ≤ℤ cost C other
+  pub inside : (other : Sides) → Allowed C other → cost C other ≡ cost C early
+      → (v : ℕ) → Step C v → early v ≡ true → other v ≡ true
+  pub fewest : (other : Sides) → Allowed C other → cost C other ≡ cost C early
+      → earlySteps C early ≤ earlySteps C other

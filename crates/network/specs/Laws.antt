@@ -1,32 +1,34 @@
 -- What is proved of charts, borders, flows and raises.
 use mathlib.Core.Path.{_≡_}
-use mathlib.Core.List.{List}
+use mathlib.Core.List.{List, map}
 use mathlib.Core.Bool.{Bool}
 use mathlib.Core.Logic.{_⊎_, _↔_}
 use Prim.Native.Nat.{ℕ, _*_, _≤_, _<_}
 use lib.IntN.{ℤ, pos, _+ℤ_, _-ℤ_}
 use lib.Signed.{_≤ℤ_, _<ℤ_}
 use lib.ListN.{length, getD}
-use Rattle.network.specs.Chart.{Chart, Step, Fit, Limited}
-use Rattle.network.specs.Walk.{Leads, In, reversed}
+use Rattle.network.specs.Chart.{Chart, Step, Fit, Limited, Sides, Flows}
+use Rattle.network.specs.Walk.{Walk, Leads, Road, In, reversed}
 use Rattle.network.specs.Sum.{sum, sumOver}
 use Rattle.network.specs.Border.{feedsForward, OnWay, AllOnWays, Border, kept, runsBack, cost, CrossedOnce, CrossedUnbarred, NoneBack, KeptUnbarred, Allowed, Best}
-use Rattle.network.specs.Move.{Move, moveFeed, UnlimitedWay, NoneAllowed, AlwaysBarred}
+use Rattle.network.specs.Move.{Move, moveFeed, hasSpare, UnlimitedWay, NoneAllowed, AlwaysBarred}
 use Rattle.network.specs.Flow.{Flow, Within, value, Closed, CanClose, Cheapest}
-use Rattle.network.specs.Raise.{OpenWay, OpenWayLeft, ShortestLeft, LeastSpare, along, Raises, totalRaised}
+use Rattle.network.specs.Raise.{OpenWay, Shortest, OpenWayLeft, ShortestLeft, LeastSpare, along, Raises, totalRaised}
 use Rattle.network.specs.Audit.{earlyBy, Audited}
-use Rattle.network.specs.Arc.{AsMoves, written}
+use Rattle.network.specs.Arc.{moveOf, numbered, AsMoves, written}
 use Rattle.network.specs.History.{Told, history, LatestDecides}
 
 -- Borders by their ways and by their feeds
 
 -- where no step is idle, every way crosses a border exactly once just where no feed runs back
 abbrev pub OnceIsNoneBack : Type 0
-OnceIsNoneBack = (C : Chart) → Fit C → AllOnWays C → (early : ℕ → Bool) → Border C early → CrossedOnce C early ↔ NoneBack C early
+OnceIsNoneBack = (C : Chart) → Fit C → AllOnWays C → (early : Sides) → Border C early
+    → CrossedOnce C early ↔ NoneBack C early
 
 -- and then every way crosses at an unbarred feed just where no kept feed is barred
 abbrev pub UnbarredIsKept : Type 0
-UnbarredIsKept = (C : Chart) → Fit C → AllOnWays C → (early : ℕ → Bool) → Border C early → NoneBack C early → CrossedUnbarred C early ↔ KeptUnbarred C early
+UnbarredIsKept = (C : Chart) → Fit C → AllOnWays C → (early : Sides) → Border C early → NoneBack C early
+    → CrossedUnbarred C early ↔ KeptUnbarred C early
 
 -- Charts without an allowed border
 
@@ -40,78 +42,99 @@ UnlimitedIsAlwaysBarred = (C : Chart) → Fit C → AllOnWays C → UnlimitedWay
 
 -- what the kept feeds carry, less what the feeds running back do, is the value
 abbrev pub ValueAcross : Type 0
-ValueAcross = (C : Chart) → Fit C → (f : ℕ → ℤ) → Flow C f → (early : ℕ → Bool) → Border C early → sumOver C (kept C early) f -ℤ sumOver C (runsBack C early) f ≡ value C f
+ValueAcross = (C : Chart) → Fit C → (f : Flows) → Flow C f → (early : Sides) → Border C early
+    → sumOver C (kept C early) f -ℤ sumOver C (runsBack C early) f ≡ value C f
 
 abbrev pub ValueAtMostCost : Type 0
-ValueAtMostCost = (C : Chart) → Fit C → (f : ℕ → ℤ) → Flow C f → (early : ℕ → Bool) → Allowed C early → value C f ≤ℤ cost C early
+ValueAtMostCost = (C : Chart) → Fit C → (f : Flows) → Flow C f → (early : Sides) → Allowed C early
+    → value C f ≤ℤ cost C early
 
--- by its feeds
+-- a closed border, by its feeds
 abbrev pub ClosedIsCheapest : Type 0
-ClosedIsCheapest = (C : Chart) → Fit C → (f : ℕ → ℤ) → Flow C f → (early : ℕ → Bool) → Closed C f early → Cheapest C f early
+ClosedIsCheapest = (C : Chart) → Fit C → (f : Flows) → Flow C f → (early : Sides) → Closed C f early
+    → Cheapest C f early
 
--- by its ways
+-- and by its ways
 abbrev pub ClosedIsBest : Type 0
-ClosedIsBest = (C : Chart) → Fit C → AllOnWays C → (f : ℕ → ℤ) → Flow C f → (early : ℕ → Bool) → Closed C f early → Best C early
+ClosedIsBest = (C : Chart) → Fit C → AllOnWays C → (f : Flows) → Flow C f → (early : Sides) → Closed C f early
+    → Best C early
 
 -- Raises
 
 -- an open way has a least spare, unless its moves are all without limit
 abbrev pub LeastSpareExists : Type 0
-LeastSpareExists = (C : Chart) → (UnlimitedWay C → ⊥) → (f : ℕ → ℤ) (w : List Move) → OpenWay C f w → (a : ℤ) × LeastSpare C f w a
+LeastSpareExists = (C : Chart) → (UnlimitedWay C → ⊥) → (f : Flows) (w : List Move) → OpenWay C f w
+    → (a : ℤ) × LeastSpare C f w a
 
--- moving the least spare along an open way
-pub record RaisedWell (C : Chart) (f : ℕ → ℤ) (w : List Move) (a : ℤ) : Type 0 where
+-- what moving the amount a along the moves w does to a flow f
+pub record RaisedWell (C : Chart) (f : Flows) (w : List Move) (a : ℤ) : Type 0 where
   pub positive : pos 0 <ℤ a
   pub flow : Flow C (along a w f)
   pub value-more : value C (along a w f) ≡ value C f +ℤ a
 
 abbrev pub RaiseKeepsFlow : Type 0
-RaiseKeepsFlow = (C : Chart) → Fit C → (f : ℕ → ℤ) → Flow C f → (w : List Move) → OpenWay C f w → (a : ℤ) → LeastSpare C f w a → RaisedWell C f w a
+RaiseKeepsFlow = (C : Chart) → Fit C → (f : Flows) → Flow C f → (w : List Move) → OpenWay C f w
+    → (a : ℤ) → LeastSpare C f w a → RaisedWell C f w a
 
--- flows after raises
-pub record RaisedFlow (C : Chart) {n : ℕ} {f : ℕ → ℤ} (r : Raises C n f) : Type 0 where
+-- what the flows f are after raises
+pub record RaisedFlow (C : Chart) {n : ℕ} {f : Flows} (r : Raises C n f) : Type 0 where
   pub flow : Flow C f
   pub value-is-total : value C f ≡ totalRaised r
   pub within-total : (k : ℕ) → k < C .count → Within (totalRaised r) (f k)
 
 abbrev pub FlowsWithinTotal : Type 0
-FlowsWithinTotal = (C : Chart) → Fit C → (n : ℕ) (f : ℕ → ℤ) → (r : Raises C n f) → RaisedFlow C r
+FlowsWithinTotal = (C : Chart) → Fit C → (n : ℕ) (f : Flows) (r : Raises C n f) → RaisedFlow C r
 
 abbrev pub FlowsWithinPrices : Type 0
-FlowsWithinPrices = (C : Chart) → Fit C → (UnlimitedWay C → ⊥) → (n : ℕ) (f : ℕ → ℤ) → Raises C n f → (k : ℕ) → k < C .count → Within (sum (C .count) (C .price)) (f k)
+FlowsWithinPrices = (C : Chart) → Fit C → (UnlimitedWay C → ⊥) → (n : ℕ) (f : Flows) → Raises C n f
+    → (k : ℕ) → k < C .count → Within (sum (C .count) (C .price)) (f k)
 
 abbrev pub FlowsWithinLimit : Type 0
-FlowsWithinLimit = (C : Chart) → Fit C → (largest : ℕ) → Limited largest C → (UnlimitedWay C → ⊥) → (n : ℕ) (f : ℕ → ℤ) → Raises C n f → (k : ℕ) → k < C .count → Within (pos (4096 * largest)) (f k)
+FlowsWithinLimit = (C : Chart) → Fit C → (largest : ℕ) → Limited largest C → (UnlimitedWay C → ⊥)
+    → (n : ℕ) (f : Flows) → Raises C n f → (k : ℕ) → k < C .count → Within (pos (4096 * largest)) (f k)
 
 -- either a shortest open way is left or the border can be closed, and never both
 abbrev pub RaiseOrClose : Type 0
-RaiseOrClose = (C : Chart) → Fit C → (f : ℕ → ℤ) → (ShortestLeft C f ⊎ CanClose C f) × (OpenWayLeft C f → CanClose C f → ⊥)
+RaiseOrClose = (C : Chart) → Fit C → (f : Flows)
+    → (ShortestLeft C f ⊎ CanClose C f) × (OpenWayLeft C f → CanClose C f → ⊥)
 
 abbrev pub FewRaises : Type 0
-FewRaises = (C : Chart) → Fit C → (n : ℕ) (f : ℕ → ℤ) → Raises C n f → n ≤ C .steps * C .count
+FewRaises = (C : Chart) → Fit C → (n : ℕ) (f : Flows) → Raises C n f → n ≤ C .steps * C .count
 
 -- Audits
 
 -- what passes an audit is an allowed border that costs the value, and no allowed border costs less
 abbrev pub AuditedIsCheapest : Type 0
-AuditedIsCheapest = (C : Chart) → Fit C → (f : ℕ → ℤ) (side : ℕ → ℕ) → Audited C f side
-    → Allowed C (earlyBy side) × (cost C (earlyBy side) ≡ value C f) × ((other : ℕ → Bool) → Allowed C other → cost C (earlyBy side) ≤ℤ cost C other)
+AuditedIsCheapest = (C : Chart) → Fit C → (f : Flows) (side : ℕ → ℕ) → Audited C f side
+    → Allowed C (earlyBy side) × (cost C (earlyBy side) ≡ value C f)
+    × ((other : Sides) → Allowed C other → cost C (earlyBy side) ≤ℤ cost C other)
 
 -- a closed border passes
 abbrev pub ClosedIsAudited : Type 0
-ClosedIsAudited = (C : Chart) → Fit C → (f : ℕ → ℤ) → Flow C f → (side : ℕ → ℕ) → ((v : ℕ) → Step C v → (side v ≡ 1) ⊎ (side v ≡ 2)) → Closed C f (earlyBy side) → Audited C f side
+ClosedIsAudited = (C : Chart) → Fit C → (f : Flows) → Flow C f
+    → (side : ℕ → ℕ) → ((v : ℕ) → Step C v → (side v ≡ 1) ⊎ (side v ≡ 2)) → Closed C f (earlyBy side)
+    → Audited C f side
 
--- What a search over numbered arcs and a written list serve for
+-- What a search over numbered arcs, and flows in a list, serve for
 
 abbrev pub NumberedAreMoves : Type 0
 NumberedAreMoves = (C : Chart) (may : ℕ → Bool) → AsMoves C may
 
+-- a road with the fewest numbered arcs is a shortest open way
+abbrev pub FewestIsShortest : Type 0
+FewestIsShortest = (C : Chart) (f : Flows) (js : List ℕ) → Road (numbered C (hasSpare C f)) (C .source) js (C .sink)
+    → ((u : List ℕ) → Walk (numbered C (hasSpare C f)) (C .source) u (C .sink) → length js ≤ length u)
+    → OpenWay C f (map moveOf js) × Shortest C f (map moveOf js)
+
 -- a step lies on a way just where feeds lead to it from the source, and reversed feeds from the sink
 abbrev pub OnWayIsReached : Type 0
-OnWayIsReached = (C : Chart) → (v : ℕ) → OnWay C v ↔ (Leads (feedsForward C) (C .source) v × Leads (reversed (feedsForward C)) (C .sink) v)
+OnWayIsReached = (C : Chart) (v : ℕ)
+    → OnWay C v ↔ (Leads (feedsForward C) (C .source) v × Leads (reversed (feedsForward C)) (C .sink) v)
 
+-- flows written one entry after the other are the flows after the raise
 abbrev pub WrittenIsAlong : Type 0
-WrittenIsAlong = (a : ℤ) (w : List Move) (fs : List ℤ) → ((x : Move) → In x w → moveFeed x < length fs) → (k : ℕ) → getD (written a w fs) k (pos 0) ≡ along a w (λ j. getD fs j (pos 0)) k
+WrittenIsAlong = (a : ℤ) (w : List Move) (fs : List ℤ) → ((x : Move) → In x w → moveFeed x < length fs)
+    → (k : ℕ) → getD (written a w fs) k (pos 0) ≡ along a w (λ j. getD fs j (pos 0)) k
 
 -- Histories
 

@@ -6,7 +6,7 @@ use Prim.Native.Nat.{ℕ, _<_}
 use lib.Dec.{ltb}
 use lib.IntN.{ℤ}
 use lib.Signed.{ltZ}
-use Rattle.network.specs.Chart.{Chart}
+use Rattle.network.specs.Chart.{Chart, Sides, Flows}
 use Rattle.network.specs.Walk.{Map, Leads}
 use Rattle.network.specs.Border.{Border, kept, runsBack, CrossedOnce}
 
@@ -39,11 +39,11 @@ abbrev pub unlimitedMoves : Chart → Map Move
 unlimitedMoves C = moves C (C .barred)
 
 -- feed k has room for more flow: it is barred, or its flow is less than its price
-abbrev pub hasSpare : Chart → (ℕ → ℤ) → ℕ → Bool
+abbrev pub hasSpare : Chart → Flows → ℕ → Bool
 hasSpare C f k = C .barred k || ltZ (f k) (C .price k)
 
 -- open moves at the flows f: forward along feeds that have room, backward along all
-abbrev pub openMoves : Chart → (ℕ → ℤ) → Map Move
+abbrev pub openMoves : Chart → Flows → Map Move
 openMoves C f = moves C (hasSpare C f)
 
 abbrev pub UnlimitedWay : Chart → Type 0
@@ -51,8 +51,10 @@ UnlimitedWay C = Leads (unlimitedMoves C) (C .source) (C .sink)
 
 -- each border has a feed that runs back or keeps a barred feed
 abbrev pub NoneAllowed : Chart → Type 0
-NoneAllowed C = (early : ℕ → Bool) → Border C early → (k : ℕ) × (k < C .count) × ((runsBack C early k ≡ true) ⊎ ((kept C early k ≡ true) × (C .barred k ≡ true)))
+NoneAllowed C = (early : Sides) → Border C early
+    → (k : ℕ) × (k < C .count) × ((runsBack C early k ≡ true) ⊎ ((kept C early k ≡ true) × (C .barred k ≡ true)))
 
 -- each border that every way crosses exactly once keeps a barred feed
 abbrev pub AlwaysBarred : Chart → Type 0
-AlwaysBarred C = (early : ℕ → Bool) → Border C early → CrossedOnce C early → (k : ℕ) × (k < C .count) × (kept C early k ≡ true) × (C .barred k ≡ true)
+AlwaysBarred C = (early : Sides) → Border C early → CrossedOnce C early
+    → (k : ℕ) × (k < C .count) × (kept C early k ≡ true) × (C .barred k ≡ true)

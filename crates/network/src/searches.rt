@@ -1,9 +1,14 @@
 // What a search over numbered arcs and a list of flows serve for.
-ghost use Rattle.network.specs.Laws.{NumberedAreMoves, OnWayIsReached, WrittenIsAlong};
+ghost use Rattle.network.specs.Laws.{NumberedAreMoves, FewestIsShortest, OnWayIsReached, WrittenIsAlong};
 
 // Walks over numbered arcs are walks over moves, and back.
 pub fn numbered_are_moves()
     ensures { λ _. ⌜ NumberedAreMoves ⌝ }
+{}
+
+// So a road with the fewest numbered arcs is a shortest open way.
+pub fn fewest_is_shortest()
+    ensures { λ _. ⌜ FewestIsShortest ⌝ }
 {}
 
 // A step lies on a way just where feeds lead to it from the source, and reversed feeds from the sink.
