@@ -1,4 +1,4 @@
--- The chart that a history makes, feed by feed: the latest call decides.
+-- The chart that a history makes: the latest served call decides, and each call counts as it should.
 use mathlib.Core.Path.{_≡_, refl, sym, _∙_, ap, subst}
 use mathlib.Core.List.{List, [], _∷_, _++_}
 use mathlib.Core.Bool.{Bool, true, false}
@@ -10,8 +10,8 @@ use lib.Seq.{getD-set-same, getD-set-other, getD-append-seam}
 use lib.ListN.{length, getD, length-set, length-append}
 use Rattle.std.proofs.shelf.Lists.{getD-append-left}
 use Rattle.std.proofs.shelf.Tests.{cases-eq, cases-bool}
-use Rattle.network.specs.History.{Feed, noFeed, Call, enter, reprice, bar, unbar, begin, raise, close, reopen, Told, changed, priced, setBar, made, after, charted, NoneServed, Reprices, SetsBar, LatestDecides}
-use Rattle.network.specs.Laws.{LatestIsChart}
+use Rattle.network.specs.History.{Feed, noFeed, Call, enter, reprice, bar, unbar, begin, raise, close, reopen, Told, changed, priced, setBar, made, after, charted, history, counted, raisesAfter, servedCall, refusedCall, NoneServed, Reprices, SetsBar, Latest}
+use Rattle.network.specs.Laws.{LatestDecides, CallsCount}
 
 after-join : (fs : List Feed) (xs ys : List Told) → after fs (xs ++ ys) ≡ after (after fs xs) ys
 after-join fs [] ys = refl
@@ -69,31 +69,24 @@ module _ {X : Type 0} (read : Feed → X) (Sort : Call → Type 0) (k : ℕ)
 
   -- of the feeds after a served call, and later ones that keep what is read
   decided : (earlier : List Told) (c : Call) (later : List Told) → k < length (made (after [] earlier) c) → NoneServed Sort later
-      → now (after [] (earlier ++ (record { call = c; served = true } ∷ later))) ≡ now (made (after [] earlier) c)
-  decided earlier c later l not = ap now (after-join [] earlier (record { call = c; served = true } ∷ later)) ∙ after-keeps (made (after [] earlier) c) later l not
+      → now (after [] (earlier ++ (servedCall c ∷ later))) ≡ now (made (after [] earlier) c)
+  decided earlier c later l not = ap now (after-join [] earlier (servedCall c ∷ later)) ∙ after-keeps (made (after [] earlier) c) later l not
 
-module _ (k : ℕ) where
-  ends-decided : {X : Type 0} (read : Feed → X) → ((p : ℤ) (x : Feed) → read (priced p x) ≡ read x) → ((b : Bool) (x : Feed) → read (setBar b x) ≡ read x) → (earlier : List Told) (c : Call) (later : List Told) → k < length (made (after [] earlier) c)
-      → read (getD (after [] (earlier ++ (record { call = c; served = true } ∷ later))) k noFeed) ≡ read (getD (made (after [] earlier) c) k noFeed)
-  ends-decided read p b earlier c later l = decided read (λ _. ⊥) k (λ q. inr (p q)) (inr (b true)) (inr (b false)) earlier c later l (λ t i e n. n)
+module _ (k : ℕ) (earlier : List Told) (c : Call) (later : List Told) (l : k < length (made (after [] earlier) c)) where
+  abbrev feed-now : Feed
+  feed-now = getD (after [] (earlier ++ (servedCall c ∷ later))) k noFeed
 
-  price-decided : (earlier : List Told) (c : Call) (later : List Told) → k < length (made (after [] earlier) c) → NoneServed (Reprices (suc k)) later
-      → getD (after [] (earlier ++ (record { call = c; served = true } ∷ later))) k noFeed .price ≡ getD (made (after [] earlier) c) k noFeed .price
-  price-decided = decided (λ x. x .price) (Reprices (suc k)) k (λ p. inl (p, refl)) (inr (λ x. refl)) (inr (λ x. refl))
+  abbrev feed-then : Feed
+  feed-then = getD (made (after [] earlier) c) k noFeed
 
-  bar-decided : (earlier : List Told) (c : Call) (later : List Told) → k < length (made (after [] earlier) c) → NoneServed (SetsBar (suc k)) later
-      → getD (after [] (earlier ++ (record { call = c; served = true } ∷ later))) k noFeed .barred ≡ getD (made (after [] earlier) c) k noFeed .barred
-  bar-decided = decided (λ x. x .barred) (SetsBar (suc k)) k (λ p. inr (λ x. refl)) (inl (inl refl)) (inl (inr refl))
+  end-decided : (end : Feed → ℕ) → ((p : ℤ) (x : Feed) → end (priced p x) ≡ end x) → ((b : Bool) (x : Feed) → end (setBar b x) ≡ end x) → end feed-now ≡ end feed-then
+  end-decided end p b = decided end (λ _. ⊥) k (λ q. inr (p q)) (inr (b true)) (inr (b false)) earlier c later l (λ t i e n. n)
 
-made-length : (fs : List Feed) (c : Call) → ((u v : ℕ) (p : ℤ) → c ≡ enter u v p → ⊥) → length (made fs c) ≡ length fs
-made-length fs (enter u v p) n = absurd (n u v p refl)
-made-length fs (reprice k p) n = changed-length fs k (priced p)
-made-length fs (bar k) n = changed-length fs k (setBar true)
-made-length fs (unbar k) n = changed-length fs k (setBar false)
-made-length fs begin n = refl
-made-length fs raise n = refl
-made-length fs close n = refl
-made-length fs reopen n = refl
+  price-decided : NoneServed (Reprices (suc k)) later → feed-now .price ≡ feed-then .price
+  price-decided = decided (λ x. x .price) (Reprices (suc k)) k (λ p. inl (p, refl)) (inr (λ x. refl)) (inr (λ x. refl)) earlier c later l
+
+  bar-decided : NoneServed (SetsBar (suc k)) later → feed-now .barred ≡ feed-then .barred
+  bar-decided = decided (λ x. x .barred) (SetsBar (suc k)) k (λ p. inr (λ x. refl)) (inl (inl refl)) (inl (inr refl)) earlier c later l
 
 module _ (n s t : ℕ) (earlier later : List Told) where
   abbrev fs : List Feed
@@ -113,13 +106,10 @@ module _ (n s t : ℕ) (earlier later : List Told) where
     changed-feed : getD (changed fs (suc k) new) k noFeed ≡ new (getD fs k noFeed)
     changed-feed = getD-set-same fs k _ noFeed l
 
-  decides : LatestDecides n s t earlier later (length fs)
+  decides : Latest (λ c. history n s t (earlier ++ (servedCall c ∷ later))) (length fs) later
   decides = record {
-    refused = λ c. ap (charted n s t) (after-join [] earlier (record { call = c; served = false } ∷ later) ∙ sym (after-join [] earlier later));
-    enter-counts = λ u v p. ap length (after-join [] earlier (record { call = enter u v p; served = true } ∷ [])) ∙ simp length-append (omega arith);
-    else-counts = λ c not. ap length (after-join [] earlier (record { call = c; served = true } ∷ [])) ∙ made-length fs c not;
-    entered-from = λ u v p. ends-decided (length fs) (λ x. x .from) (λ q x. refl) (λ b x. refl) earlier (enter u v p) later (entered-in u v p) ∙ ap (λ x. x .from) (entered-feed u v p);
-    entered-to = λ u v p. ends-decided (length fs) (λ x. x .to) (λ q x. refl) (λ b x. refl) earlier (enter u v p) later (entered-in u v p) ∙ ap (λ x. x .to) (entered-feed u v p);
+    entered-from = λ u v p. end-decided (length fs) earlier (enter u v p) later (entered-in u v p) (λ x. x .from) (λ q x. refl) (λ b x. refl) ∙ ap (λ x. x .from) (entered-feed u v p);
+    entered-to = λ u v p. end-decided (length fs) earlier (enter u v p) later (entered-in u v p) (λ x. x .to) (λ q x. refl) (λ b x. refl) ∙ ap (λ x. x .to) (entered-feed u v p);
     entered-price = λ u v p none. price-decided (length fs) earlier (enter u v p) later (entered-in u v p) none ∙ ap (λ x. x .price) (entered-feed u v p);
     entered-bar = λ u v p none. bar-decided (length fs) earlier (enter u v p) later (entered-in u v p) none ∙ ap (λ x. x .barred) (entered-feed u v p);
     repriced = λ k p l none. price-decided k earlier (reprice (suc k) p) later (changed-in k l (priced p)) none ∙ ap (λ x. x .price) (changed-feed k l (priced p));
@@ -127,5 +117,42 @@ module _ (n s t : ℕ) (earlier later : List Told) where
     was-unbarred = λ k l none. bar-decided k earlier (unbar (suc k)) later (changed-in k l (setBar false)) none ∙ ap (λ x. x .barred) (changed-feed k l (setBar false));
   }
 
-pub latest-is-chart : LatestIsChart
-latest-is-chart = decides
+pub latest-decides : LatestDecides
+latest-decides = decides
+
+-- one more call
+
+raises-join : (r : ℕ) (xs ys : List Told) → raisesAfter r (xs ++ ys) ≡ raisesAfter (raisesAfter r xs) ys
+raises-join r [] ys = refl
+raises-join r (x ∷ xs) ys = raises-join _ xs ys
+
+made-length : (fs : List Feed) (c : Call) → ((u v : ℕ) (p : ℤ) → c ≡ enter u v p → ⊥) → length (made fs c) ≡ length fs
+made-length fs (enter u v p) n = absurd (n u v p refl)
+made-length fs (reprice k p) n = changed-length fs k (priced p)
+made-length fs (bar k) n = changed-length fs k (setBar true)
+made-length fs (unbar k) n = changed-length fs k (setBar false)
+made-length fs begin n = refl
+made-length fs raise n = refl
+made-length fs close n = refl
+made-length fs reopen n = refl
+
+counted-else : (r : ℕ) (c : Call) → (c ≡ begin → ⊥) → (c ≡ raise → ⊥) → counted r c ≡ r
+counted-else r (enter u v p) b n = refl
+counted-else r (reprice k p) b n = refl
+counted-else r (bar k) b n = refl
+counted-else r (unbar k) b n = refl
+counted-else r begin b n = absurd (b refl)
+counted-else r raise b n = absurd (n refl)
+counted-else r close b n = refl
+counted-else r reopen b n = refl
+
+pub calls-count : CallsCount
+calls-count n s t r calls = record {
+  refused = λ c. ap (charted n s t) (after-join [] calls (refusedCall c ∷ []));
+  refused-raises = λ c. raises-join r calls (refusedCall c ∷ []);
+  enter-feeds = λ u v p. ap length (after-join [] calls (servedCall (enter u v p) ∷ [])) ∙ simp length-append (omega arith);
+  else-feeds = λ c not. ap length (after-join [] calls (servedCall c ∷ [])) ∙ made-length (after [] calls) c not;
+  begin-raises = raises-join r calls (servedCall begin ∷ []);
+  raise-raises = raises-join r calls (servedCall raise ∷ []);
+  else-raises = λ c b not. raises-join r calls (servedCall c ∷ []) ∙ counted-else (raisesAfter r calls) c b not;
+}

@@ -1,10 +1,9 @@
 -- The five conditions by which a reader checks a border and its flows (a certificate of optimality).
 use mathlib.Core.Path.{_≡_}
-use mathlib.Core.Bool.{Bool, true, false}
+use mathlib.Core.Bool.{true, false}
 use mathlib.Core.Logic.{_⊎_}
 use Prim.Native.Nat.{ℕ, _<_}
 use lib.Dec.{eqb}
-use lib.IntN.{ℤ}
 use Rattle.network.specs.Chart.{Chart, Step, Sides, Flows}
 use Rattle.network.specs.Border.{kept, NoneBack}
 use Rattle.network.specs.Flow.{Conserved, WithinPrices}

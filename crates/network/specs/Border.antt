@@ -2,6 +2,7 @@
 use mathlib.Core.Path.{_≡_}
 use mathlib.Core.List.{List, [], _∷_}
 use mathlib.Core.Bool.{Bool, true, false, not, _&&_, _||_, cond}
+use mathlib.Core.Logic.{_⊎_}
 use Prim.Native.Nat.{ℕ, suc, _+_, _≤_, _<_}
 use lib.Dec.{ltb}
 use lib.IntN.{ℤ}
@@ -82,6 +83,16 @@ pub record Allowed (C : Chart) (early : Sides) : Type 0 where
   pub border : Border C early
   pub none-back : NoneBack C early
   pub kept-unbarred : KeptUnbarred C early
+
+-- each border has a feed that runs back or keeps a barred feed
+abbrev pub NoneAllowed : Chart → Type 0
+NoneAllowed C = (early : Sides) → Border C early
+    → (k : ℕ) × (k < C .count) × ((runsBack C early k ≡ true) ⊎ ((kept C early k ≡ true) × (C .barred k ≡ true)))
+
+-- each border that every way crosses exactly once keeps a barred feed
+abbrev pub AlwaysBarred : Chart → Type 0
+AlwaysBarred C = (early : Sides) → Border C early → CrossedOnce C early
+    → (k : ℕ) × (k < C .count) × (kept C early k ≡ true) × (C .barred k ≡ true)
 
 -- the border of a closed book: no proper border costs less, and none that costs the same has fewer early steps
 pub record Best (C : Chart) (early : Sides) : Type 0 where

@@ -1,6 +1,6 @@
 -- Flows, and the border that they close.
 use mathlib.Core.Path.{_≡_}
-use mathlib.Core.Bool.{Bool, true, false}
+use mathlib.Core.Bool.{true, false}
 use mathlib.Core.Logic.{_↔_}
 use Prim.Native.Nat.{ℕ, _≤_, _<_}
 use lib.Dec.{eqb}
@@ -26,7 +26,7 @@ Conserved C f = (v : ℕ) → Step C v → (v ≡ C .source → ⊥) → (v ≡ 
 abbrev pub WithinPrices : Chart → Flows → Type 0
 WithinPrices C f = (k : ℕ) → k < C .count → C .barred k ≡ false → f k ≤ℤ C .price k
 
--- a flow of the network where backward moves have no limit
+-- a feasible flow, where arcs have no lower bounds
 pub record Flow (C : Chart) (f : Flows) : Type 0 where
   pub conserved : Conserved C f
   pub within-prices : WithinPrices C f

@@ -90,7 +90,24 @@ abbrev pub raisesAfter : ℕ → List Told → ℕ
 raisesAfter r [] = r
 raisesAfter r (t ∷ ts) = raisesAfter (cond (t .served) (counted r (t .call)) r) ts
 
--- What the history says of its chart: the latest call decides.
+-- What this comes to: the latest served call decides
+
+-- a call that was served, or refused
+abbrev pub servedCall : Call → Told
+servedCall c = record { call = c; served = true }
+
+abbrev pub refusedCall : Call → Told
+refusedCall c = record { call = c; served = false }
+
+-- one more call at the end: what it does to the chart, with m feeds before it, and to the count of raises, r before it
+pub record OneMore (before : Chart) (after-call : Told → Chart) (m : ℕ) (raises-after : Told → ℕ) (r : ℕ) : Type 0 where
+  pub refused : (c : Call) → after-call (refusedCall c) ≡ before
+  pub refused-raises : (c : Call) → raises-after (refusedCall c) ≡ r
+  pub enter-feeds : (u v : ℕ) (p : ℤ) → after-call (servedCall (enter u v p)) .count ≡ suc m
+  pub else-feeds : (c : Call) → ((u v : ℕ) (p : ℤ) → c ≡ enter u v p → ⊥) → after-call (servedCall c) .count ≡ m
+  pub begin-raises : raises-after (servedCall begin) ≡ 0
+  pub raise-raises : raises-after (servedCall raise) ≡ suc r
+  pub else-raises : (c : Call) → (c ≡ begin → ⊥) → (c ≡ raise → ⊥) → raises-after (servedCall c) ≡ r
 
 -- none of the calls is of this sort and was served
 abbrev pub NoneServed : (Call → Type 0) → List Told → Type 0
@@ -102,19 +119,12 @@ Reprices number c = (p : ℤ) × (c ≡ reprice number p)
 abbrev pub SetsBar : ℕ → Call → Type 0
 SetsBar number c = (c ≡ bar number) ⊎ (c ≡ unbar number)
 
--- the chart where c was served after the earlier calls and before the later ones
-abbrev pub withServed : ℕ → ℕ → ℕ → List Told → Call → List Told → Chart
-withServed n s t earlier c later = history n s t (earlier ++ (record { call = c; served = true } ∷ later))
-
--- feed m is the one that a further served enter makes; its number is m + 1
-pub record LatestDecides (n s t : ℕ) (earlier later : List Told) (m : ℕ) : Type 0 where
-  pub refused : (c : Call) → history n s t (earlier ++ (record { call = c; served = false } ∷ later)) ≡ history n s t (earlier ++ later)
-  pub enter-counts : (u v : ℕ) (p : ℤ) → withServed n s t earlier (enter u v p) [] .count ≡ suc m
-  pub else-counts : (c : Call) → ((u v : ℕ) (p : ℤ) → c ≡ enter u v p → ⊥) → withServed n s t earlier c [] .count ≡ m
-  pub entered-from : (u v : ℕ) (p : ℤ) → withServed n s t earlier (enter u v p) later .from m ≡ u
-  pub entered-to : (u v : ℕ) (p : ℤ) → withServed n s t earlier (enter u v p) later .to m ≡ v
-  pub entered-price : (u v : ℕ) (p : ℤ) → NoneServed (Reprices (suc m)) later → withServed n s t earlier (enter u v p) later .price m ≡ p
-  pub entered-bar : (u v : ℕ) (p : ℤ) → NoneServed (SetsBar (suc m)) later → withServed n s t earlier (enter u v p) later .barred m ≡ false
-  pub repriced : (k : ℕ) (p : ℤ) → k < m → NoneServed (Reprices (suc k)) later → withServed n s t earlier (reprice (suc k) p) later .price k ≡ p
-  pub was-barred : (k : ℕ) → k < m → NoneServed (SetsBar (suc k)) later → withServed n s t earlier (bar (suc k)) later .barred k ≡ true
-  pub was-unbarred : (k : ℕ) → k < m → NoneServed (SetsBar (suc k)) later → withServed n s t earlier (unbar (suc k)) later .barred k ≡ false
+-- `chart c` is made by some calls, which leave m feeds, then c, served, then the later calls: c's enter makes feed m
+pub record Latest (chart : Call → Chart) (m : ℕ) (later : List Told) : Type 0 where
+  pub entered-from : (u v : ℕ) (p : ℤ) → chart (enter u v p) .from m ≡ u
+  pub entered-to : (u v : ℕ) (p : ℤ) → chart (enter u v p) .to m ≡ v
+  pub entered-price : (u v : ℕ) (p : ℤ) → NoneServed (Reprices (suc m)) later → chart (enter u v p) .price m ≡ p
+  pub entered-bar : (u v : ℕ) (p : ℤ) → NoneServed (SetsBar (suc m)) later → chart (enter u v p) .barred m ≡ false
+  pub repriced : (k : ℕ) (p : ℤ) → k < m → NoneServed (Reprices (suc k)) later → chart (reprice (suc k) p) .price k ≡ p
+  pub was-barred : (k : ℕ) → k < m → NoneServed (SetsBar (suc k)) later → chart (bar (suc k)) .barred k ≡ true
+  pub was-unbarred : (k : ℕ) → k < m → NoneServed (SetsBar (suc k)) later → chart (unbar (suc k)) .barred k ≡ false

@@ -1,6 +1,6 @@
 -- What is proved of charts, borders, flows and raises.
 use mathlib.Core.Path.{_≡_}
-use mathlib.Core.List.{List, map}
+use mathlib.Core.List.{List, [], _∷_, _++_, map}
 use mathlib.Core.Bool.{Bool}
 use mathlib.Core.Logic.{_⊎_, _↔_}
 use Prim.Native.Nat.{ℕ, _*_, _≤_, _<_}
@@ -10,13 +10,13 @@ use lib.ListN.{length, getD}
 use Rattle.network.specs.Chart.{Chart, Step, Fit, Limited, Sides, Flows}
 use Rattle.network.specs.Walk.{Walk, Leads, Road, In, reversed}
 use Rattle.network.specs.Sum.{sum, sumOver}
-use Rattle.network.specs.Border.{feedsForward, OnWay, AllOnWays, Border, kept, runsBack, cost, CrossedOnce, CrossedUnbarred, NoneBack, KeptUnbarred, Allowed, Best}
-use Rattle.network.specs.Move.{Move, moveFeed, hasSpare, UnlimitedWay, NoneAllowed, AlwaysBarred}
+use Rattle.network.specs.Border.{feedsForward, OnWay, AllOnWays, Border, kept, runsBack, cost, CrossedOnce, CrossedUnbarred, NoneBack, KeptUnbarred, Allowed, NoneAllowed, AlwaysBarred, Best}
+use Rattle.network.specs.Move.{Move, moveFeed, hasSpare, UnlimitedWay}
 use Rattle.network.specs.Flow.{Flow, Within, value, Closed, CanClose, Cheapest}
 use Rattle.network.specs.Raise.{OpenWay, Shortest, OpenWayLeft, ShortestLeft, LeastSpare, along, Raises, totalRaised}
 use Rattle.network.specs.Audit.{earlyBy, Audited}
 use Rattle.network.specs.Arc.{moveOf, numbered, AsMoves, written}
-use Rattle.network.specs.History.{Told, history, LatestDecides}
+use Rattle.network.specs.History.{Told, history, raisesAfter, servedCall, OneMore, Latest}
 
 -- Borders by their ways and by their feeds
 
@@ -138,6 +138,13 @@ WrittenIsAlong = (a : ℤ) (w : List Move) (fs : List ℤ) → ((x : Move) → I
 
 -- Histories
 
--- price and bar of a feed come from the latest served call that sets them, its ends from the enter that made it
-abbrev pub LatestIsChart : Type 0
-LatestIsChart = (n s t : ℕ) (earlier later : List Told) → LatestDecides n s t earlier later (history n s t earlier .count)
+-- each served enter makes one feed more, each served raise counts, begin starts the count anew, a refused call is nothing
+abbrev pub CallsCount : Type 0
+CallsCount = (n s t r : ℕ) (calls : List Told)
+    → OneMore (history n s t calls) (λ x. history n s t (calls ++ (x ∷ []))) (history n s t calls .count)
+    (λ x. raisesAfter r (calls ++ (x ∷ []))) (raisesAfter r calls)
+
+-- a feed's ends come from the enter that made it, its price and bar from the latest served call that sets them
+abbrev pub LatestDecides : Type 0
+LatestDecides = (n s t : ℕ) (earlier later : List Told)
+    → Latest (λ c. history n s t (earlier ++ (servedCall c ∷ later))) (history n s t earlier .count) later

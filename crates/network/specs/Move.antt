@@ -1,14 +1,10 @@
 -- Moves along feeds, forward and backward (arcs of the residual network).
-use mathlib.Core.Path.{_≡_}
 use mathlib.Core.Bool.{Bool, true, _&&_, _||_}
-use mathlib.Core.Logic.{_⊎_}
-use Prim.Native.Nat.{ℕ, _<_}
+use Prim.Native.Nat.{ℕ}
 use lib.Dec.{ltb}
-use lib.IntN.{ℤ}
 use lib.Signed.{ltZ}
-use Rattle.network.specs.Chart.{Chart, Sides, Flows}
+use Rattle.network.specs.Chart.{Chart, Flows}
 use Rattle.network.specs.Walk.{Map, Leads}
-use Rattle.network.specs.Border.{Border, kept, runsBack, CrossedOnce}
 
 -- along feed k from its start to its end, or against it
 pub data Move : Type 0 where
@@ -48,13 +44,3 @@ openMoves C f = moves C (hasSpare C f)
 
 abbrev pub UnlimitedWay : Chart → Type 0
 UnlimitedWay C = Leads (unlimitedMoves C) (C .source) (C .sink)
-
--- each border has a feed that runs back or keeps a barred feed
-abbrev pub NoneAllowed : Chart → Type 0
-NoneAllowed C = (early : Sides) → Border C early
-    → (k : ℕ) × (k < C .count) × ((runsBack C early k ≡ true) ⊎ ((kept C early k ≡ true) × (C .barred k ≡ true)))
-
--- each border that every way crosses exactly once keeps a barred feed
-abbrev pub AlwaysBarred : Chart → Type 0
-AlwaysBarred C = (early : Sides) → Border C early → CrossedOnce C early
-    → (k : ℕ) × (k < C .count) × (kept C early k ≡ true) × (C .barred k ≡ true)

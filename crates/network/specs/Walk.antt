@@ -26,10 +26,12 @@ abbrev pub met : {A : Type 0} → Map A → ℕ → List A → List ℕ
 met M a [] = a ∷ []
 met M a (x ∷ w) = a ∷ met M (M .to x) w
 
+-- x stands in the list
 abbrev pub In : {A : Type 0} → A → List A → Type 0
 In x [] = ⊥
 In x (y ∷ ys) = (y ≡ x) ⊎ In x ys
 
+-- no number stands twice
 abbrev pub Distinct : List ℕ → Type 0
 Distinct [] = Unit {0}
 Distinct (v ∷ vs) = (In v vs → ⊥) × Distinct vs

@@ -11,8 +11,8 @@ pub fn value_at_most_cost()
     ensures { λ _. ⌜ ValueAtMostCost ⌝ }
 {}
 
-// Where open moves do not reach the sink, the steps that they reach are an allowed border that costs the value; none costs
-// less, and it lies inside every allowed border that costs the same.
+// Where open moves do not reach the sink, the steps that they reach are an allowed border that costs the value. None
+// costs less, and it lies inside every allowed border that costs the same.
 pub fn closed_is_cheapest()
     ensures { λ _. ⌜ ClosedIsCheapest ⌝ }
 {}
