@@ -123,14 +123,17 @@ module _ (C : Chart) (fit : Fit C) (f : Flows) (fl : Flow C f) (w : List Move) (
       ]
 
   -- feed k is not used, moved forward, or moved backward
-  pub use-cases : (k : ℕ) → (carried a w k ≡ pos 0) ⊎ ((In (forward k) w × (carried a w k ≡ a)) ⊎ (In (backward k) w × (carried a w k ≡ negℤ a)))
+  abbrev Use : ℕ → Type 0
+  Use k = (carried a w k ≡ pos 0) ⊎ ((In (forward k) w × (carried a w k ≡ a)) ⊎ (In (backward k) w × (carried a w k ≡ negℤ a)))
+
+  pub use-cases : (k : ℕ) → Use k
   use-cases k =
       elim (used-or-not w k) [
         | inl r ↦ (let e = carried-once C (hasSpare C f) a (C .source) w (C .sink) (ow .0) (ow .1) (r .0) (r .1) in by-kind (r .0) (r .1) (r .2) e)
         | inr n ↦ inl (carried-none a w k n)
       ]
     where
-      by-kind : (x : Move) → In x w → moveFeed x ≡ k → carried a w (moveFeed x) ≡ change a x → (carried a w k ≡ pos 0) ⊎ ((In (forward k) w × (carried a w k ≡ a)) ⊎ (In (backward k) w × (carried a w k ≡ negℤ a)))
+      by-kind : (x : Move) → In x w → moveFeed x ≡ k → carried a w (moveFeed x) ≡ change a x → Use k
       by-kind (forward j) i e c = inr (inl (subst (λ z. In (forward z) w × (carried a w z ≡ a)) e (i, c)))
       by-kind (backward j) i e c = inr (inr (subst (λ z. In (backward z) w × (carried a w z ≡ negℤ a)) e (i, c)))
 

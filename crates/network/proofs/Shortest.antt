@@ -57,8 +57,11 @@ extend C f x w a ls head = record {
   one-is = (ls .one-is .0, inr (ls .one-is .1), ls .one-is .2, ls .one-is .3);
 }
 
+abbrev SpareOrNone : Chart → Flows → ℕ → List Move → ℕ → Type 0
+SpareOrNone C f a w b = Walk (unlimitedMoves C) a w b ⊎ ((s : ℤ) × LeastSpare C f w s)
+
 -- open moves have a least spare, or all are without limit
-least-spare : (C : Chart) (f : Flows) (a : ℕ) (w : List Move) (b : ℕ) → Walk (openMoves C f) a w b → Walk (unlimitedMoves C) a w b ⊎ ((s : ℤ) × LeastSpare C f w s)
+least-spare : (C : Chart) (f : Flows) (a : ℕ) (w : List Move) (b : ℕ) → Walk (openMoves C f) a w b → SpareOrNone C f a w b
 least-spare C f a [] b h = inl h
 least-spare C f a (backward j ∷ w) b h =
     elim (least-spare C f (C .from j) w b (h .2)) [
@@ -80,7 +83,7 @@ least-spare C f a (forward j ∷ w) b h = go (cases-bool (C .barred j)) (least-s
       one-is = (j, inl refl, n, refl);
     }
 
-    go : (C .barred j ≡ true) ⊎ (C .barred j ≡ false) → Walk (unlimitedMoves C) (C .to j) w b ⊎ ((s : ℤ) × LeastSpare C f w s) → Walk (unlimitedMoves C) a (forward j ∷ w) b ⊎ ((s : ℤ) × LeastSpare C f (forward j ∷ w) s)
+    go : (C .barred j ≡ true) ⊎ (C .barred j ≡ false) → SpareOrNone C f (C .to j) w b → SpareOrNone C f a (forward j ∷ w) b
     go (inl t) (inl u) = inl (forward-passes C (C .barred) j (move-feed C (hasSpare C f) (forward j) (h .0)) t, h .1, u)
     go (inl t) (inr r) = inr (r .0, extend C f (forward j) w (r .0) (r .1) (λ k e n. absurd (both-ways (C .barred k) n (ap (λ x. C .barred (moveFeed x)) (sym e) ∙ t))))
     go (inr n) (inl u) = inr (spare C f j, first n (λ k i c. absurd (both-ways (C .barred k) c (forward-may C (C .barred) k (walk-passable (unlimitedMoves C) (C .to j) w b u (forward k) i)))))
