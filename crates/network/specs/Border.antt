@@ -15,7 +15,7 @@ use Rattle.network.specs.Sum.{sumOver, howMany}
 abbrev pub feedsForward : Chart → Map ℕ
 feedsForward C = record { from = C .from; to = C .to; passable = λ k. ltb k (C .count) }
 
--- a way: feeds that lead from source to sink
+-- a way: feeds that lead from source to sink (a directed walk; steps and feeds may come again)
 abbrev pub Way : Chart → List ℕ → Type 0
 Way C w = Walk (feedsForward C) (C .source) w (C .sink)
 
@@ -23,7 +23,7 @@ Way C w = Walk (feedsForward C) (C .source) w (C .sink)
 abbrev pub OnWay : Chart → ℕ → Type 0
 OnWay C v = (w : List ℕ) × Way C w × In v (met (feedsForward C) (C .source) w)
 
--- no step is idle
+-- no step is idle (each node lies on some walk from source to sink)
 abbrev pub AllOnWays : Chart → Type 0
 AllOnWays C = (v : ℕ) → Step C v → OnWay C v
 
@@ -39,6 +39,7 @@ kept C early k = early (C .from k) && not (early (C .to k))
 abbrev pub runsBack : Chart → Sides → ℕ → Bool
 runsBack C early k = not (early (C .from k)) && early (C .to k)
 
+-- its ends have different sides
 abbrev pub crosses : Chart → Sides → ℕ → Bool
 crosses C early k = kept C early k || runsBack C early k
 
@@ -94,7 +95,8 @@ abbrev pub AlwaysBarred : Chart → Type 0
 AlwaysBarred C = (early : Sides) → Border C early → CrossedOnce C early
     → (k : ℕ) × (k < C .count) × (kept C early k ≡ true) × (C .barred k ≡ true)
 
--- the border of a closed book: no proper border costs less, and none that costs the same has fewer early steps
+-- the border of a closed book: no proper border costs less, and none that costs the same has fewer early steps (the
+-- minimum cut nearest to the source)
 pub record Best (C : Chart) (early : Sides) : Type 0 where
   pub proper : Proper C early
   pub cheapest : (other : Sides) → Proper C other → cost C early ≤ℤ cost C other

@@ -18,7 +18,7 @@ outflow C f v = sumOver C (λ k. eqb (C .from k) v) f
 abbrev pub inflow : Chart → Flows → ℕ → ℤ
 inflow C f v = sumOver C (λ k. eqb (C .to k) v) f
 
--- at each step but source and sink as much flows in as out
+-- at each step but source and sink as much flows in as out (conservation)
 abbrev pub Conserved : Chart → Flows → Type 0
 Conserved C f = (v : ℕ) → Step C v → (v ≡ C .source → ⊥) → (v ≡ C .sink → ⊥) → inflow C f v ≡ outflow C f v
 
@@ -35,11 +35,11 @@ pub record Flow (C : Chart) (f : Flows) : Type 0 where
 abbrev pub Within : ℤ → ℤ → Type 0
 Within b z = (negℤ b ≤ℤ z) × (z ≤ℤ b)
 
--- what leaves the source, less what comes back to it
+-- what leaves the source, less what comes back to it (value of the flow)
 abbrev pub value : Chart → Flows → ℤ
 value C f = outflow C f (C .source) -ℤ inflow C f (C .source)
 
--- open moves lead from the source to step v
+-- open moves lead from the source to step v (reachable in the residual network)
 abbrev pub Reached : Chart → Flows → ℕ → Type 0
 Reached C f v = Leads (openMoves C f) (C .source) v
 

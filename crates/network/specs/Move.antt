@@ -42,5 +42,6 @@ hasSpare C f k = C .barred k || ltZ (f k) (C .price k)
 abbrev pub openMoves : Chart → Flows → Map Move
 openMoves C f = moves C (hasSpare C f)
 
+-- they lead from source to sink
 abbrev pub UnlimitedWay : Chart → Type 0
 UnlimitedWay C = Leads (unlimitedMoves C) (C .source) (C .sink)

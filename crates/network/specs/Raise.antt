@@ -29,7 +29,7 @@ ShortestLeft C f = (w : List Move) × OpenWay C f w × Shortest C f w
 abbrev pub spare : Chart → Flows → ℕ → ℤ
 spare C f k = C .price k -ℤ f k
 
--- a is the least spare of the unbarred feeds that the moves pass forward
+-- a is the least spare of the unbarred feeds that the moves pass forward (bottleneck)
 pub record LeastSpare (C : Chart) (f : Flows) (w : List Move) (a : ℤ) : Type 0 where
   pub at-most : (k : ℕ) → In (forward k) w → C .barred k ≡ false → a ≤ℤ spare C f k
   pub one-is : (k : ℕ) × In (forward k) w × (C .barred k ≡ false) × (a ≡ spare C f k)
