@@ -8,23 +8,23 @@ use Rattle.lines.proofs.number.read_number.Goals as goal
 some : (c : goal.After-loop-digit) → 0 < length c.args.field.now
 some c = grind (arith, nat_tests)
 
-pub returns-then-not-is-ascii-digit : goal.returns-then-not-is-ascii-digit
-returns-then-not-is-ascii-digit c =
-    let none = digit_none c.loop-digit.n c.loop-digit.digit-index c.args.field.now c.loop-digit-test.true (sym c.if-not-is-ascii-digit.ensures.value) in
+pub returns-then-not-is_ascii_digit : goal.returns-then-not-is_ascii_digit
+returns-then-not-is_ascii_digit c =
+    let none = digit_none c.loop-digit.n c.loop-digit.digit-index c.args.field.now c.loop-digit-test.true (sym c.if-not-is_ascii_digit.ensures.value) in
     let whole = number_by_digits c.args.field.now (grind (arith, nat_tests)) (omega arith) in
     sym none ∙ c.loop-digit.invariant.0 ∙ whole
 
-pub overflow-mul-n : goal.overflow-mul-n
-overflow-mul-n c = omega (arith, digits_fit c.loop-digit.n c.loop-digit.digit-index 0 (omega arith) (omega arith) c.loop-digit.invariant.1)
+pub overflow_mul-n : goal.overflow_mul-n
+overflow_mul-n c = omega (arith, digits_fit c.loop-digit.n c.loop-digit.digit-index 0 (omega arith) (omega arith) c.loop-digit.invariant.1)
 
-pub overflow-add-n : goal.overflow-add-n
-overflow-add-n c =
-    let value = digit_value (get_or c.args.field.now c.loop-digit.digit-index 0) (sym c.if-not-is-ascii-digit.ensures.value) in
+pub overflow_add-n : goal.overflow_add-n
+overflow_add-n c =
+    let value = digit_value (get_or c.args.field.now c.loop-digit.digit-index 0) (sym c.if-not-is_ascii_digit.ensures.value) in
     omega (arith, digits_fit c.loop-digit.n c.loop-digit.digit-index c.from.result (omega arith) (omega arith) c.loop-digit.invariant.1)
 
 pub loop-digit-preserved : goal.loop-digit-preserved
 loop-digit-preserved c =
-    let digit = sym c.if-not-is-ascii-digit.ensures.value in
+    let digit = sym c.if-not-is_ascii_digit.ensures.value in
     let value = digit_value (get_or c.args.field.now c.loop-digit.digit-index 0) digit in
     let more = digit_more c.loop-digit.n c.loop-digit.digit-index c.args.field.now c.loop-digit-test.true digit in
     (rw c.from.ensures (sym more ∙ c.loop-digit.invariant.0), digit_bound c.loop-digit.n c.loop-digit.digit-index c.from.result (omega arith) c.loop-digit.invariant.1)

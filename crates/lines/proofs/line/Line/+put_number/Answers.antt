@@ -7,6 +7,6 @@ use Rattle.lines.proofs.line.Line.+put_number.Goals.{then-n-ge10, else-n-ge10}
 pub returns : goal.returns
 returns t c =
     elim c.if-n-ge10.branch [
-      | then-n-ge10 w ↦ joined_digit (line_text c.args.self.now) _ _ c.args.n w.if-n-ge10.true c.ranges.n.fits (ap line_text w.self-is ∙ w.put-number.ensures) c.push.ensures
+      | then-n-ge10 w ↦ joined_digit (line_text c.args.self.now) _ _ c.args.n w.if-n-ge10.true c.ranges.n.fits (ap line_text w.self-is ∙ w.put_number.ensures) c.push.ensures
       | else-n-ge10 w ↦ joined_one (line_text c.args.self.now) _ _ c.args.n w.if-n-ge10.false (ap line_text w.self-is) c.push.ensures
     ]
