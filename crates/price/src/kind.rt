@@ -45,22 +45,22 @@ pub trait Price: Copy {
 
 // Whether two totals mean the same number.
 pub fn is_same<P: Price>(a: P, b: P) -> bool
-    ensures { Decides result (Same kind a b) }
+    ensures { Decides result (Same P.kind a b) }
 {
     a.compare(b).is_eq()
 }
 
 // Whether a total means a number below 0.
 pub fn is_negative<P: Price>(total: P) -> bool
-    ensures { Decides result (kind.means total <ℤ pos 0) }
+    ensures { Decides result (P.kind.means total <ℤ pos 0) }
 {
     total.compare(P::zero()).is_lt()
 }
 
 // 4,096 times the largest price, by doubling.
 pub fn flow_limit<P: Price>() -> P
-    ensures means { kind.means result ≡ pos (flow_limit kind) }
-    ensures named { kind.named result ≡ true }
+    ensures means { P.kind.means result ≡ pos (flow_limit P.kind) }
+    ensures named { P.kind.named result ≡ true }
 {
     let mut total = P::largest();
     for _i in 0..12u8 {
@@ -71,7 +71,7 @@ pub fn flow_limit<P: Price>() -> P
 
 // Whether a total lies within the flow limit, on either side of 0.
 pub fn is_within_flow_limit<P: Price>(total: P) -> bool
-    ensures { Decides result (Between (flow_limit kind) (kind.means total)) }
+    ensures { Decides result (Between (flow_limit P.kind) (P.kind.means total)) }
 {
     let limit = flow_limit::<P>();
     total.compare(limit).is_le() && P::zero().minus(total).compare(limit).is_le()

@@ -6,9 +6,9 @@ use super::kind::Price;
 
 // The sum of totals, added in turn: exact where they are at most 4,096 and each lies within the flow limit.
 pub fn sum_of<P: Price>(totals: &[P]) -> P
-    ensures means { kind.means result ≡ held_sum (reach kind) (pos 0) (map kind.means totals.now) }
-    ensures exact { Modest kind totals.now → kind.means result ≡ sum_of kind totals.now }
-    ensures named { kind.named result ≡ true }
+    ensures means { P.kind.means result ≡ held_sum (reach P.kind) (pos 0) (map P.kind.means totals.now) }
+    ensures exact { Modest P.kind totals.now → P.kind.means result ≡ sum_of P.kind totals.now }
+    ensures named { P.kind.named result ≡ true }
 {
     let mut sum = P::zero();
     for total in totals {

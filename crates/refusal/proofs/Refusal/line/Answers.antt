@@ -9,6 +9,6 @@ returns c =
     let start = line_text c.new-line.result in
     let end = line_text c.push-2.new.self in
     let puts : Puts start (parts c.from.result c.place.result) end =
-    (_, c.put.ensures, (_, c.put-number.ensures, (_, c.push.ensures, (_, c.put-number-2.ensures, (_, c.push-2.ensures, refl))))) in
+    (_, c.put.ensures, (_, c.put_number.ensures, (_, c.push.ensures, (_, c.put_number-2.ensures, (_, c.push-2.ensures, refl))))) in
     let whole = told c.from.result c.place.result start end (omega arith) (omega arith) c.new-line.ensures puts in
     rw (c.from.ensures, c.number.ensures, c.place.ensures) at whole
