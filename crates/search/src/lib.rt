@@ -32,7 +32,7 @@ pub enum Answer {
 
 // A road from start to goal with the fewest arcs (shortest path), on the steps 1 to `steps`.
 pub fn search<M: Map>(map: &M, steps: usize, start: usize, goal: usize) -> Answer
-    ensures { Answers (size map.now) (graph map.now) steps start goal result }
+    ensures { Answers (M.size map.now) (M.graph map.now) steps start goal result }
 {
     let arcs = map.arcs();
     if arcs > MOST_ARCS
@@ -55,7 +55,7 @@ pub fn search<M: Map>(map: &M, steps: usize, start: usize, goal: usize) -> Answe
 // The steps of 1 to `steps` to which passable arcs lead from the start; none where there are too many steps or arcs, or
 // the start is no step.
 pub fn explore<M: Map>(map: &M, steps: usize, start: usize) -> Option<Reach>
-    ensures { Explores (size map.now) (graph map.now) steps start result }
+    ensures { Explores (M.size map.now) (M.graph map.now) steps start result }
 {
     let arcs = map.arcs();
     if arcs > MOST_ARCS || steps > MOST_STEPS || start < 1 || start > steps {
@@ -77,8 +77,8 @@ fn link<M: Map>(map: &M, arcs: usize, steps: usize, index: &mut Index, k: usize)
     requires limit { arcs ≤ 8192 }
     requires small { steps ≤ 1024 }
     requires below { k < arcs }
-    requires indexed { Indexed (graph map.now) arcs steps index.old.first index.old.next (k + 1) }
-    ensures { Indexed (graph map.now) arcs steps index.new.first index.new.next k }
+    requires indexed { Indexed (M.graph map.now) arcs steps index.old.first index.old.next (k + 1) }
+    ensures { Indexed (M.graph map.now) arcs steps index.new.first index.new.next k }
 {
     let from = map.ends(k).from;
     if 1 <= from && from <= steps {
@@ -91,7 +91,7 @@ fn link<M: Map>(map: &M, arcs: usize, steps: usize, index: &mut Index, k: usize)
 fn indexed<M: Map>(map: &M, arcs: usize, steps: usize) -> Index
     requires limit { arcs ≤ 8192 }
     requires small { steps ≤ 1024 }
-    ensures { Indexed (graph map.now) arcs steps result.first result.next 0 }
+    ensures { Indexed (M.graph map.now) arcs steps result.first result.next 0 }
 {
     let mut index = Index {
         first: [arcs as u16; 1024],
@@ -127,8 +127,8 @@ impl Work {
 
 // Whether the search goes along arc k: one may pass it, to a step that was not reached yet.
 fn is_fresh<M: Map>(map: &M, reach: &Reach, steps: usize, k: usize) -> bool
-    ensures yes { result ≡ true → Fresh (graph map.now) reach.now steps k }
-    ensures refused { result ≡ false → Fresh (graph map.now) reach.now steps k → ⊥ }
+    ensures yes { result ≡ true → Fresh (M.graph map.now) reach.now steps k }
+    ensures refused { result ≡ false → Fresh (M.graph map.now) reach.now steps k → ⊥ }
 {
     let to = map.ends(k).to;
     1 <= to && to <= steps && !reach.reaches(to) && map.is_passable(k)
@@ -137,13 +137,13 @@ fn is_fresh<M: Map>(map: &M, reach: &Reach, steps: usize, k: usize) -> bool
 // Looks at arc k, which leaves the step at place h of the queue.
 fn look<M: Map>(map: &M, steps: usize, start: usize, work: &mut Work, h: usize, k: usize)
     requires limit { k < 8192 }
-    requires below { k < size map.now }
+    requires below { k < M.size map.now }
     requires inside { h < work.old.count }
-    requires leaves { (graph map.now).from k ≡ slice_index work.old.queue h }
-    requires progress { Going (inside (size map.now) steps (graph map.now)) steps start work.old h k }
+    requires leaves { (M.graph map.now).from k ≡ slice_index work.old.queue h }
+    requires progress { Going (inside (M.size map.now) steps (M.graph map.now)) steps start work.old h k }
     ensures inside { h < work.new.count }
     ensures at { slice_index work.new.queue h ≡ slice_index work.old.queue h }
-    ensures progress { Going (inside (size map.now) steps (graph map.now)) steps start work.new h (k + 1) }
+    ensures progress { Going (inside (M.size map.now) steps (M.graph map.now)) steps start work.new h (k + 1) }
 {
     if is_fresh(map, &work.reach, steps, k) {
         work.push(map.ends(k).to, Parent::Along(k as u16));
@@ -162,10 +162,10 @@ fn scan<M: Map>(
 )
     requires inside { h < work.old.count }
     requires limit { arcs ≤ 8192 }
-    requires arcs { arcs ≡ size map.now }
-    requires indexed { Indexed (graph map.now) arcs steps index.now.first index.now.next 0 }
-    requires progress { Going (inside (size map.now) steps (graph map.now)) steps start work.old h 0 }
-    ensures { Going (inside (size map.now) steps (graph map.now)) steps start work.new (h + 1) 0 }
+    requires arcs { arcs ≡ M.size map.now }
+    requires indexed { Indexed (M.graph map.now) arcs steps index.now.first index.now.next 0 }
+    requires progress { Going (inside (M.size map.now) steps (M.graph map.now)) steps start work.old h 0 }
+    ensures { Going (inside (M.size map.now) steps (M.graph map.now)) steps start work.new (h + 1) 0 }
 {
     let step = work.queue[h] as usize;
     let mut k = index.first[step - 1] as usize;
@@ -180,9 +180,9 @@ fn spread<M: Map>(map: &M, arcs: usize, steps: usize, start: usize, goal: usize)
     requires limit { arcs ≤ 8192 }
     requires small { steps ≤ 1024 }
     requires start { Step steps start }
-    requires arcs { arcs ≡ size map.now }
-    ensures searched { Searched (inside (size map.now) steps (graph map.now)) start result }
-    ensures whole { reached result goal ≡ false → Whole (inside (size map.now) steps (graph map.now)) start result }
+    requires arcs { arcs ≡ M.size map.now }
+    ensures searched { Searched (inside (M.size map.now) steps (M.graph map.now)) start result }
+    ensures whole { reached result goal ≡ false → Whole (inside (M.size map.now) steps (M.graph map.now)) start result }
 {
     let index = indexed(map, arcs, steps);
     let mut work = Work {
@@ -203,9 +203,9 @@ fn spread<M: Map>(map: &M, arcs: usize, steps: usize, start: usize, goal: usize)
 
 // Reads the road to the goal off the parents, from its last arc to its first.
 fn road_to<M: Map>(map: &M, steps: usize, start: usize, reach: &Reach, goal: usize) -> Road
-    requires searched { Searched (inside (size map.now) steps (graph map.now)) start reach.now }
+    requires searched { Searched (inside (M.size map.now) steps (M.graph map.now)) start reach.now }
     requires reached { reached reach.now goal ≡ true }
-    ensures { ShortestRoad (inside (size map.now) steps (graph map.now)) start (arcs_of result) goal }
+    ensures { ShortestRoad (inside (M.size map.now) steps (M.graph map.now)) start (arcs_of result) goal }
 {
     let mut road = Road {
         table: [0; 1024],

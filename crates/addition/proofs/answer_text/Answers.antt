@@ -1,5 +1,5 @@
 use Rattle.addition.proofs.Progress.{total_within}
 use Rattle.addition.proofs.answer_text.Goals as goal
 
-pub total-line-requires : goal.total-line-requires
-total-line-requires g c = total_within g.W.Price.kind g.met.W.Price.sound _ c.in-Ok.total c.in-Ok.ensures
+pub total_line-requires : goal.total_line-requires
+total_line-requires g c = total_within g.W.Price.kind g.met.W.Price.sound _ c.in-Ok.total c.in-Ok.ensures

@@ -9,6 +9,6 @@ returns g c =
     let K = g.W.Price.kind in
     let start = line_text c.new-line.result in
     let end = line_text c.push.new.self in
-    let digits = rw (c.put-digits.ensures.served.1 c.requires) at c.put-digits.ensures.line in
+    let digits = rw (c.put_digits.ensures.served.1 c.requires) at c.put_digits.ensures.line in
     let puts : Puts start (parts K c.args.total) end = (_, c.put.ensures, (_, digits, (_, c.push.ensures, refl))) in
     whole_line K g.met.W.Written.short c.args.total start end c.requires c.new-line.ensures puts

@@ -10,17 +10,17 @@ use Rattle.search.proofs.look.Goals as goal
 pub push-requires : goal.push-requires
 push-requires g c =
     let M = g.M.Map.graph c.args.map.now in
-    let fresh = c.is-fresh.ensures.yes c.if-is-fresh.true in
+    let fresh = c.is_fresh.ensures.yes c.if-is_fresh.true in
     let P = c.requires.progress in
     let to = c.ends.ensures.to in
     let at = c.requires.leaves in
     let pk = passes (g.M.Map.size c.args.map.now) c.args.steps M c.args.k c.requires.below fresh.passable fresh.step in
     rw to ((fresh.step.0, omega (arith, fresh.step.1, P.state.small)), room _ _ _ _ _ _ _ _ P c.requires.inside _ pk refl at fresh.step fresh.new)
 
-pub returns-then-is-fresh : goal.returns-then-is-fresh
-returns-then-is-fresh g c =
+pub returns-then-is_fresh : goal.returns-then-is_fresh
+returns-then-is_fresh g c =
     let M = g.M.Map.graph c.args.map.now in
-    let fresh = c.is-fresh.ensures.yes c.if-is-fresh.true in
+    let fresh = c.is_fresh.ensures.yes c.if-is_fresh.true in
     let P = c.requires.progress in
     let at = c.requires.leaves in
     let pk = passes (g.M.Map.size c.args.map.now) c.args.steps M c.args.k c.requires.below fresh.passable fresh.step in
@@ -30,8 +30,8 @@ returns-then-is-fresh g c =
       progress = rw (c.push.ensures.parents, c.push.ensures.queue, c.push.ensures.count, c.ends.ensures.to) (push _ _ _ _ _ _ _ _ P c.requires.inside _ pk refl at fresh.step fresh.new);
     }
 
-pub returns-else-is-fresh : goal.returns-else-is-fresh
-returns-else-is-fresh g c =
+pub returns-else-is_fresh : goal.returns-else-is_fresh
+returns-else-is_fresh g c =
     let M = g.M.Map.graph c.args.map.now in
     let reach = c.args.work.now.reach in
     record {
@@ -41,7 +41,7 @@ returns-else-is-fresh g c =
           let e : k ≡ c.args.k = omega arith in
           elim (cases_Bool (is_reached (parent_of reach.parents (M.to k)))) [
             | inl known ↦ known
-            | inr new ↦ absurd (c.is-fresh.ensures.refused c.if-is-fresh.false (subst (Fresh M reach c.args.steps) e (record {
+            | inr new ↦ absurd (c.is_fresh.ensures.refused c.if-is_fresh.false (subst (Fresh M reach c.args.steps) e (record {
               passable = passed (g.M.Map.size c.args.map.now) c.args.steps M k pk;
               step = ends_inside (g.M.Map.size c.args.map.now) c.args.steps M k pk;
               new = new;

@@ -6,8 +6,8 @@ use Rattle.search.proofs.road_to.Goals as goal
 pub loop-k-init : goal.loop-k-init
 loop-k-init g c = (omega arith, length-replicate {A = ℕ} 1024 0, λ S. at_goal _ _ _ S _ c.requires.reached)
 
-pub overflow-sub-road : goal.overflow-sub-road
-overflow-sub-road g c = place_left _ _ c.loop-k.invariant.1 (few _ _ _ c.requires.searched _ _ _ (c.loop-k.invariant.2 c.requires.searched))
+pub overflow_sub-road : goal.overflow_sub-road
+overflow_sub-road g c = place_left _ _ c.loop-k.invariant.1 (few _ _ _ c.requires.searched _ _ _ (c.loop-k.invariant.2 c.requires.searched))
 
 pub loop-k-smaller : goal.loop-k-smaller
 loop-k-smaller g c =
@@ -27,4 +27,4 @@ pub returns : goal.returns
 returns g c =
     let S = c.requires.searched in
     let R = c.loop-k.invariant.2 S in
-    at_start _ _ _ S _ _ _ R (is_start _ R.known (λ k e. c.in-default.not-Along k (c.parent.ensures ∙ e)))
+    at_start _ _ _ S _ _ _ R (is_start _ R.known (λ k e. c.in_default.not-Along k (c.parent.ensures ∙ e)))

@@ -4,8 +4,8 @@ use Rattle.search.proofs.Inner.{below}
 use Rattle.search.proofs.Turns.{turn, filled, pass}
 use Rattle.search.proofs.scan.Goals as goal
 
-pub offset-bounds-work-h : goal.offset-bounds-work-h
-offset-bounds-work-h g c = omega (arith, filled _ _ _ _ _ _ _ _ c.requires.progress, c.requires.progress.state.small)
+pub offset_bounds-work-h : goal.offset_bounds-work-h
+offset_bounds-work-h g c = omega (arith, filled _ _ _ _ _ _ _ _ c.requires.progress, c.requires.progress.state.small)
 
 pub bounds-work-h : goal.bounds-work-h
 bounds-work-h g c = omega (arith, filled _ _ _ _ _ _ _ _ c.requires.progress, c.requires.progress.state.small)

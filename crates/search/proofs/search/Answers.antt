@@ -8,8 +8,8 @@ returns-else-reaches g c =
     let none = sym c.if-reaches.ensures in
     let all = c.spread-reach.ensures.whole none in (
       record {
-        few_arcs = omega (arith, c.arcs-arcs.ensures, c.if-arcs-gt-MOST-ARCS.false);
-        few_steps = c.if-steps-gt-MOST-STEPS.false;
+        few_arcs = omega (arith, c.arcs-arcs.ensures, c.if-arcs-gt-MOST_ARCS.false);
+        few_steps = c.if-steps-gt-MOST_STEPS.false;
         start = (c.if-start-lt1.false, c.if-start-steps.false);
       },
       (c.if-goal-lt1.false, c.if-goal-steps.false),

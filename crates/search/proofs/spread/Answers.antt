@@ -8,8 +8,8 @@ use Rattle.search.proofs.spread.Goals.{then-loop-h-test+else-not-reaches, else-l
 pub loop-h-init : goal.loop-h-init
 loop-h-init g c = rw (c.push.ensures.parents, c.push.ensures.queue, c.push.ensures.count) (begin _ _ _ c.requires.small c.requires.start)
 
-pub overflow-add-h : goal.overflow-add-h
-overflow-add-h g c = omega (arith, filled _ _ _ _ _ _ _ _ c.loop-h.invariant, c.loop-h.invariant.state.small)
+pub overflow_add-h : goal.overflow_add-h
+overflow_add-h g c = omega (arith, filled _ _ _ _ _ _ _ _ c.loop-h.invariant, c.loop-h.invariant.state.small)
 
 pub loop-h-smaller : goal.loop-h-smaller
 loop-h-smaller g c = omega (arith, filled _ _ _ _ _ _ _ _ c.loop-h.invariant, c.loop-h.invariant.state.small)

@@ -6,5 +6,5 @@ use Rattle.kinds.proofs.ranked.RankedWritten.whole.Goals as goal
 
 pub returns : goal.returns
 returns c =
-    let within : Between 1080881502754959360 (ranked_means c.args.self) = c.is-within-flow-limit.ensures.0 c.if-not-is-within-flow-limit.false in
+    let within : Between 1080881502754959360 (ranked_means c.args.self) = c.is_within_flow_limit.ensures.0 c.if-not-is_within_flow_limit.false in
     (within, omega (arith, ints))
