@@ -9,8 +9,8 @@ use sheets::Feed;
 
 // The ends of the feed at place k of a sheet; both 0 where it has no such place. Bars do not matter here.
 pub(super) fn feed_ends<P: Price>(feeds: &[Feed<P>], k: usize) -> Ends
-    ensures from { (bars : List ℕ) → result.from ≡ (feeds_chart kind feeds.now bars).from k }
-    ensures to { (bars : List ℕ) → result.to ≡ (feeds_chart kind feeds.now bars).to k }
+    ensures from { (bars : List ℕ) → result.from ≡ (feeds_chart P.kind feeds.now bars).from k }
+    ensures to { (bars : List ℕ) → result.to ≡ (feeds_chart P.kind feeds.now bars).to k }
 {
     if k < feeds.len() {
         Ends {
@@ -50,8 +50,8 @@ pub(super) fn is_backward(j: usize) -> bool
 // The ends of a move by its number: arc 2k is along the feed at place k, arc 2k + 1 is against it. Bars do not matter
 // here.
 pub(super) fn move_ends<P: Price>(feeds: &[Feed<P>], j: usize) -> Ends
-    ensures from { (bars : List ℕ) → result.from ≡ move_from (feeds_chart kind feeds.now bars) (move_of j) }
-    ensures to { (bars : List ℕ) → result.to ≡ move_to (feeds_chart kind feeds.now bars) (move_of j) }
+    ensures from { (bars : List ℕ) → result.from ≡ move_from (feeds_chart P.kind feeds.now bars) (move_of j) }
+    ensures to { (bars : List ℕ) → result.to ≡ move_to (feeds_chart P.kind feeds.now bars) (move_of j) }
 {
     let ends = feed_ends(feeds, j / 2);
     if is_backward(j) { turned(ends) } else { ends }

@@ -21,14 +21,14 @@ pub mod unlimited_moves;
 
 // The steps to which feeds lead from the source, whatever the sink and the bars.
 pub fn from_source<P: Price>(steps: usize, source: usize, feeds: &[Feed<P>]) -> Option<Reach>
-    ensures { (sink : ℕ) (bars : List ℕ) → SearchFromSource (chart_of kind steps source sink feeds.now bars) result }
+    ensures { (sink : ℕ) (bars : List ℕ) → SearchFromSource (chart_of P.kind steps source sink feeds.now bars) result }
 {
     explore(&FeedsForward { feeds }, steps, source)
 }
 
 // The steps from which feeds lead to the sink, whatever the source and the bars.
 pub fn to_sink<P: Price>(steps: usize, sink: usize, feeds: &[Feed<P>]) -> Option<Reach>
-    ensures { (source : ℕ) (bars : List ℕ) → SearchToSink (chart_of kind steps source sink feeds.now bars) result }
+    ensures { (source : ℕ) (bars : List ℕ) → SearchToSink (chart_of P.kind steps source sink feeds.now bars) result }
 {
     explore(&FeedsReversed { feeds }, steps, sink)
 }
@@ -41,7 +41,7 @@ pub fn unlimited_way<'x, P: Price>(
     feeds: &'x [Feed<P>],
     bars: &'x [u8],
 ) -> Answer
-    ensures { SearchUnlimitedWay (chart_of kind steps source sink feeds.now bars.now) result }
+    ensures { SearchUnlimitedWay (chart_of P.kind steps source sink feeds.now bars.now) result }
 {
     search(&UnlimitedMoves { feeds, bars }, steps, source, sink)
 }
@@ -56,7 +56,7 @@ pub fn open_way<'x, P: Price>(
     bars: &'x [u8],
     flows: &'x [P],
 ) -> Answer
-    ensures { SearchOpenWay (chart_of kind steps source sink feeds.now bars.now) (flows_of kind flows.now) result }
+    ensures { SearchOpenWay (chart_of P.kind steps source sink feeds.now bars.now) (flows_of P.kind flows.now) result }
 {
     search(&OpenMoves { feeds, bars, flows }, steps, source, sink)
 }

@@ -10,14 +10,14 @@ use sheets::Feed;
 
 // What flows along the feed at place k; zero where the sheet of flows has no such place.
 fn flow_at<P: Price>(flows: &[P], k: usize) -> P
-    ensures { kind.means result ≡ flows_of kind flows.now k }
+    ensures { P.kind.means result ≡ flows_of P.kind flows.now k }
 {
     if k < flows.len() { flows[k] } else { P::zero() }
 }
 
 // Whether a price leaves room above a flow.
 fn has_room<P: Price>(flow: P, price: P) -> bool
-    ensures { Decides result (kind.means flow <ℤ kind.means price) }
+    ensures { Decides result (P.kind.means flow <ℤ P.kind.means price) }
 {
     flow.compare(price).is_lt()
 }
@@ -35,7 +35,7 @@ impl<P: Price> OpenMoves<'_, P> {
     // Whether the feed at place k has room for more flow.
     fn has_spare(&self, k: usize) -> bool
         requires { k < length self.now.feeds.now }
-        ensures { result ≡ has_spare (feeds_chart kind self.now.feeds.now self.now.bars.now) (flows_of kind self.now.flows.now) k }
+        ensures { result ≡ has_spare (feeds_chart P.kind self.now.feeds.now self.now.bars.now) (flows_of P.kind self.now.flows.now) k }
     {
         is_barred(self.bars, k) || has_room(flow_at(self.flows, k), self.feeds[k].price)
     }

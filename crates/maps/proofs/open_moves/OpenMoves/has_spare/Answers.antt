@@ -6,19 +6,19 @@ use Rattle.sheets.proofs.Entries.{field_is, barred_is}
 use Rattle.maps.proofs.Comparing.{less_is}
 use Rattle.maps.proofs.open_moves.OpenMoves.has_spare.Goals as goal
 
-pub returns-then-is-barred : goal.returns-then-is-barred
-returns-then-is-barred g c =
+pub returns-then-is_barred : goal.returns-then-is_barred
+returns-then-is_barred g c =
     let K = g.P.Price.kind in
     let feeds = c.args.self.now.feeds.now in
     let bars = c.args.self.now.bars.now in
     let C = feeds_chart K feeds bars in
     let f = flows_of K c.args.self.now.flows.now in
     let k = c.args.k in
-    let barred : C.barred k ≡ true = barred_is K feeds bars k c.requires ∙ sym c.is-barred.ensures ∙ c.if-is-barred.true in
-    c.if-is-barred.true ∙ sym (ap (λ x. x || lt_z (f k) (C.price k)) barred)
+    let barred : C.barred k ≡ true = barred_is K feeds bars k c.requires ∙ sym c.is_barred.ensures ∙ c.if-is_barred.true in
+    c.if-is_barred.true ∙ sym (ap (λ x. x || lt_z (f k) (C.price k)) barred)
 
-pub returns-else-is-barred : goal.returns-else-is-barred
-returns-else-is-barred g c =
+pub returns-else-is_barred : goal.returns-else-is_barred
+returns-else-is_barred g c =
     let K = g.P.Price.kind in
     let feeds = c.args.self.now.feeds.now in
     let bars = c.args.self.now.bars.now in
@@ -26,9 +26,9 @@ returns-else-is-barred g c =
     let f = flows_of K c.args.self.now.flows.now in
     let k = c.args.k in
     let x = c.index-self-k.result in
-    let barred : C.barred k ≡ false = barred_is K feeds bars k c.requires ∙ sym c.is-barred.ensures ∙ c.if-is-barred.false in
+    let barred : C.barred k ≡ false = barred_is K feeds bars k c.requires ∙ sym c.is_barred.ensures ∙ c.if-is_barred.false in
     let price : C.price k ≡ K.means (get_or feeds k x).price = field_is K (λ y. y.price) (λ y. K.means y.price) (λ y b. refl) feeds bars k ∙ get_or-map (λ y. K.means y.price) feeds k x (pos 0) c.requires in
-    less_is _ _ _ c.has-room.ensures
-    ∙ ap (λ z. lt_z z (K.means (get_or feeds k x).price)) c.flow-at.ensures
+    less_is _ _ _ c.has_room.ensures
+    ∙ ap (λ z. lt_z z (K.means (get_or feeds k x).price)) c.flow_at.ensures
     ∙ ap (lt_z (f k)) (sym price)
     ∙ sym (ap (λ z. z || lt_z (f k) (C.price k)) barred)
