@@ -49,10 +49,10 @@ fn as_many_lines_as_feeds(rt: HostRuntime) -> Result<(), Fail> {
     for _ in 0..4096 {
         text.extend_from_slice(b"4294967295\n")?;
     }
-    assert!(rt; answer_text::<Size>(&text).line.as_bytes() == b"s 17592186040320\n");
+    assert!(rt; answer_text::<Size>(&text).line.as_bytes() == b"s 17592186040320\n".as_slice());
     text.extend_from_slice(b"1\n")?;
     let answer = answer_text::<Size>(&text);
     assert!(rt; !answer.served);
-    assert!(rt; answer.line.as_bytes() == b"c refused 17 4097\n");
+    assert!(rt; answer.line.as_bytes() == b"c refused 17 4097\n".as_slice());
     Ok(())
 }
