@@ -1,3 +1,5 @@
+#![tactic(auto)]
+
 ghost use Rattle.std.specs.Prelude.{◌≡◌, ◌++◌, codes, MatchOption};
 ghost use Rattle.lines.specs.Texts.{line_text};
 ghost use Rattle.price.specs.Kind.{Between, flow_limit};

@@ -1,4 +1,6 @@
 // Adds up prices of the size kind, one to a line, from standard input to standard output.
+#![tactic(auto)]
+
 use addition::answer_text;
 use anyhow::anyhow;
 use kinds::size::Size;

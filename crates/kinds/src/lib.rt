@@ -1,2 +1,4 @@
+#![tactic(auto)]
+
 pub mod ranked;
 pub mod size;

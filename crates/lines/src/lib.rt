@@ -1,3 +1,5 @@
+#![tactic(auto)]
+
 pub mod line;
 pub mod number;
 pub mod split;

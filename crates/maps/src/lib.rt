@@ -1,5 +1,7 @@
 // The four maps over the sheets of a book, and the search on each of them. Every entry of the feed sheet counts; a shorter
 // sheet of bars or flows is read as if it went on with zeros.
+#![tactic(auto)]
+
 ghost use Rattle.std.specs.Prelude.{ℕ, List};
 ghost use Rattle.sheets.specs.Sheets.{chart_of, flows_of};
 ghost use Rattle.maps.specs.Searches.{SearchFromSource, SearchOpenWay, SearchToSink, SearchUnlimitedWay};

@@ -2,7 +2,6 @@
 use Rattle.std.proofs.Common.{◌≡◌, ℕ, ◌*◌, ◌<◌, ◌≤◌, Bool, true, false, cond, eqb, ℤ, pos, ◌+ℤ◌, ◌-ℤ◌, ◌≤ℤ◌, sym, ◌∙◌, ap₂, mul-le-mul_right, arith}
 use Rattle.std.proofs.lemmas.Int.{ints}
 use Rattle.network.specs.Chart.{Chart, Flows}
-use Rattle.network.specs.Sum.{sum}
 use Rattle.network.specs.Border.{kept}
 use Rattle.network.specs.Flow.{Flow, value}
 use Rattle.network.specs.Raise.{along, begun, raised, total_raised}

@@ -1,6 +1,6 @@
 -- A border whose kept feeds are full costs the value. The steps that open moves reach are such a border, and it lies
 -- inside every other that costs as much.
-use Rattle.std.proofs.Common.{◌≡◌, ℕ, suc, ◌<◌, ◌≤◌, Bool, true, false, cond, ◌||◌, eqb, [], ◌∷◌, ◌++◌, ℤ, pos, ◌≤ℤ◌, sym, refl, ◌∙◌, inl, inr, arith}
+use Rattle.std.proofs.Common.{◌≡◌, ℕ, suc, ◌<◌, Bool, true, false, cond, ◌||◌, eqb, [], ◌∷◌, ◌++◌, ℤ, pos, ◌≤ℤ◌, sym, refl, ◌∙◌, inl, inr, arith}
 use lib.Signed.{lt_z}
 use Rattle.std.proofs.lemmas.Int.{ints}
 use Rattle.std.proofs.lemmas.Bool.{cases_Bool, or_cases, or_parts, both_ways, eqb-true, eq-eqb}

@@ -8,7 +8,7 @@ use Rattle.network.specs.Chart.{Chart, Fit, Flows}
 use Rattle.network.specs.Walk.{Walk, met, In, Distinct}
 use Rattle.network.specs.Move.{Move, forward, backward, move_feed, move_from, move_to, moves, has_spare, open_moves}
 use Rattle.network.specs.Flow.{outflow, inflow, Conserved, WithinPrices, Flow, Within, value}
-use Rattle.network.specs.Raise.{OpenWay, LeastSpare, spare, change, carried, along}
+use Rattle.network.specs.Raise.{OpenWay, LeastSpare, change, carried, along}
 use Rattle.network.specs.Laws.{RaiseKeepsFlow}
 use Rattle.network.proofs.Walks.{walk_passable, met_ends}
 use Rattle.network.proofs.Arcs.{move_feed_lem, forward_may}

@@ -1,5 +1,7 @@
 // Looks for a shortest open way in an example chart, at three stages of its flows, and prints the moves by the numbers of
 // their feeds: + forward, - backward. Where no open way is left it prints the steps that open moves reach.
+#![tactic(auto)]
+
 use kinds::size::Size;
 use maps::open_way;
 use search::Answer;

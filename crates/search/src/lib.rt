@@ -1,4 +1,6 @@
 // One breadth-first search, on any map of steps: a road with the fewest arcs, or exactly the steps that are reached.
+#![tactic(auto)]
+
 ghost use Rattle.std.specs.Prelude.{◌≡◌, ◌+◌, ◌-◌, ◌<◌, ◌≤◌, true, false, slice_index, slice_set};
 ghost use Rattle.search.specs.Inside.{Step, inside};
 ghost use Rattle.search.specs.Record.{arcs_of, reached};

@@ -1,5 +1,7 @@
 // Searches maps of four families, each in four sizes. With a word after its name, as in `searchbench times`, it also tells
 // how long a search takes, and how size and time grow.
+#![tactic(auto)]
+
 use kinds::size::Size;
 use maps::open_way;
 use search::Answer;

@@ -1,3 +1,5 @@
+#![tactic(auto)]
+
 // Examples of what the calls answer, run by the gate.
 #[cfg(test)]
 mod addition_tests;

@@ -1,4 +1,4 @@
-use Rattle.std.proofs.Common.{true, ◌∙◌, arith}
+use Rattle.std.proofs.Common.{◌∙◌, arith}
 use Rattle.std.proofs.lemmas.Bool.{true≢false}
 use Rattle.search.proofs.Turns.{filled, begin}
 use Rattle.search.proofs.Outcome.{searched, whole}
