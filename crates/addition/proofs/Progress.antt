@@ -1,7 +1,7 @@
 -- Adding up the first lines of a text.
 use Rattle.std.proofs.Common.{◌≡◌, ℕ, ◌+◌, ◌*◌, ◌<◌, ◌≤◌, List, [], ◌∷◌, length, get_or, take, drop, pos, ◌+ℤ◌, sum_by, sym, refl, ap, ◌∙◌, subst, inl, inr, mul-le-mul_right, arith, length-drop, length-take}
 use Rattle.std.specs.Str.Parse.{digits_value}
-use Rattle.std.specs.List.{AllByRecursion as All}
+use Rattle.std.specs.List.{AllByRecursion}
 use Rattle.std.proofs.ByRecursion.{All-more, All-weaker, sum_by_le}
 use Rattle.std.proofs.lemmas.List.{drop-drop, get_or-drop, take_all}
 use Rattle.std.proofs.lemmas.List.Sums.{sum_by_more}
@@ -25,7 +25,7 @@ module _ {P : Type 0} (K : PriceKind P) where
   pub record Progress (text rest : List ℕ) (count : ℕ) (total : P) : Type 0 where
     pub left : lines_of rest ≡ drop count (lines_of text)
     pub few : count ≤ 4096
-    pub each : All (Priced K) (take count (lines_of text))
+    pub each : AllByRecursion (Priced K) (take count (lines_of text))
     pub sum : K.means total ≡ pos (sum_by (digits_value 10) (take count (lines_of text)))
 
   pub started : (text : List ℕ) (total : P) → K.means total ≡ pos 0 → Progress text text 0 total
@@ -35,7 +35,7 @@ module _ {P : Type 0} (K : PriceKind P) where
   price_most sound line (p, w) = let means = w.price.means in let most = sound.price_high p w.price.price in omega (arith, ints)
 
   -- prices on at most n lines add up to at most n times the largest
-  pub sum_most : Sound K → (lines : List (List ℕ)) (n : ℕ) → length lines ≤ n → All (Priced K) lines → sum_by (digits_value 10) lines ≤ n * K.largest
+  pub sum_most : Sound K → (lines : List (List ℕ)) (n : ℕ) → length lines ≤ n → AllByRecursion (Priced K) lines → sum_by (digits_value 10) lines ≤ n * K.largest
   sum_most sound lines n few each =
       let small = sum_by_le (digits_value 10) K.largest lines (All-weaker (Priced K) (λ line. digits_value 10 line ≤ K.largest) (price_most sound) lines each) in
       let wide = mul-le-mul_right K.largest few in
@@ -60,7 +60,7 @@ module _ {P : Type 0} (K : PriceKind P) where
       let lines = lines_of text in
       let size = ap length (sym none ∙ so.left) ∙ length-drop count lines in
       let all : take count lines ≡ lines = take_all count lines (omega arith) in
-      record { few = omega (arith, so.few); each = subst (All (Priced K)) all so.each; sum = so.sum ∙ ap (λ l. pos (sum_by (digits_value 10) l)) all }
+      record { few = omega (arith, so.few); each = subst (AllByRecursion (Priced K)) all so.each; sum = so.sum ∙ ap (λ l. pos (sum_by (digits_value 10) l)) all }
 
   pub no_price : (text rest after line : List ℕ) (count : ℕ) (total : P) → Progress text rest count total → lines_of rest ≡ line ∷ lines_of after → (Priced K line → ⊥)
       → Refuses K (lines_of text) (NotAPrice (count + 1))

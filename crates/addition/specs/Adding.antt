@@ -1,7 +1,7 @@
 -- A text of prices, one to a line, and what they add up to.
 use Rattle.std.specs.Prelude.{◌≡◌, ℕ, ◌+◌, ◌<◌, ◌≤◌, true, ◌⊎◌, List, [], ◌++◌, length, take, pos, is_ok, Ok, Err, codes, sum_by, Result, slice_index_or}
 use Rattle.std.specs.Str.Parse.{digits_value}
-use Rattle.std.specs.List.{AllByRecursion as All}
+use Rattle.std.specs.List.{AllByRecursion}
 use Rattle.lines.specs.Numbers.{is_number}
 use Rattle.lines.specs.Split.{lines_of}
 use Rattle.lines.specs.Texts.{line_text}
@@ -24,7 +24,7 @@ Priced K line = (p : _) × Writes K line p
 -- at most 4,096 lines, each with a price, and their sum
 pub record Adds {P : Type 0} (K : PriceKind P) (lines : List (List ℕ)) (total : P) : Type 0 where
   pub few : length lines ≤ 4096
-  pub each : All (Priced K) lines
+  pub each : AllByRecursion (Priced K) lines
   pub sum : K.means total ≡ pos (sum_by (digits_value 10) lines)
 
 -- the earliest line that is no price, or a price on line 4,097
@@ -32,7 +32,7 @@ pub record Refuses {P : Type 0} (K : PriceKind P) (lines : List (List ℕ)) (e :
   pub index : ℕ
   pub within : index < length lines
   pub few : index ≤ 4096
-  pub before : All (Priced K) (take index lines)
+  pub before : AllByRecursion (Priced K) (take index lines)
   pub cause : ((Priced K (slice_index_or lines index []) → ⊥) × (e ≡ NotAPrice (index + 1))) ⊎ (Priced K (slice_index_or lines index []) × (index ≡ 4096) × (e ≡ NoPlace (index + 1)))
 
 abbrev pub AddsUp : {P : Type 0} → PriceKind P → List ℕ → Result P Refusal → Type 0

@@ -1,17 +1,17 @@
 -- Ranks decide before sizes.
 use Rattle.std.proofs.Common.{◌≡◌, ℕ, ◌*◌, ◌^◌, ◌<◌, ◌≤◌, true, List, [], ◌∷◌, length, ℤ, ◌<ℤ◌, Ordering, Less, Equal, Greater, arith}
-use Rattle.std.specs.List.{AllByRecursion as All}
+use Rattle.std.specs.List.{AllByRecursion}
 use Rattle.std.proofs.lemmas.List.Sums.{sum_by-cons}
 use Rattle.std.proofs.lemmas.Bool.Decides.{nat_tests}
-use Rattle.std.specs.Ordering.{MatchOrdering as Compared, ordering_then}
+use Rattle.std.specs.Ordering.{MatchOrdering, ordering_then}
 use Rattle.std.proofs.lemmas.Int.{ints}
 use Rattle.kinds.specs.RankedKind.{RanksFirst, as_one, ranked_kind, ranked_means, ranked_price, ranks, sizes}
 use Rattle.price.specs.Sums.{sum_of}
 use Rattle.kinds.specs.declared.ranked.Ranked.{Ranked}
 
 pub compared : (a b : ℤ) (m n : ℕ) (x y : ℤ) (o p : Ordering) → m < 2 ^ 44 → n < 2 ^ 44 → as_one a m ≡ x → as_one b n ≡ y
-    → Compared o (a <ℤ b) (a ≡ b) (b <ℤ a) → Compared p (m < n) (m ≡ n) (n < m)
-    → Compared (ordering_then o p) (x <ℤ y) (x ≡ y) (y <ℤ x)
+    → MatchOrdering o (a <ℤ b) (a ≡ b) (b <ℤ a) → MatchOrdering p (m < n) (m ≡ n) (n < m)
+    → MatchOrdering (ordering_then o p) (x <ℤ y) (x ≡ y) (y <ℤ x)
 compared a b m n x y Less p u v e f h k = omega (arith, ints)
 compared a b m n x y Greater p u v e f h k = omega (arith, ints)
 compared a b m n x y Equal Less u v e f h k = omega (arith, ints)
@@ -21,7 +21,7 @@ compared a b m n x y Equal Greater u v e f h k = omega (arith, ints)
 price_means : (t : Ranked) → ranked_price t ≡ true → (ranked_means t ≡ as_one t.rank t.size) × (t.size ≤ 4294967295)
 price_means t e = grind (arith, ints, nat_tests)
 
-price_sums : (ts : List Ranked) → All (λ t. ranked_price t ≡ true) ts → (sum_of ranked_kind ts ≡ as_one (ranks ts) (sizes ts)) × (sizes ts ≤ length ts * 4294967295)
+price_sums : (ts : List Ranked) → AllByRecursion (λ t. ranked_price t ≡ true) ts → (sum_of ranked_kind ts ≡ as_one (ranks ts) (sizes ts)) × (sizes ts ≤ length ts * 4294967295)
 price_sums [] h = (omega (arith, ints), omega arith)
 price_sums (t ∷ ts) h =
     let one = price_means t h.0 in

@@ -1,6 +1,6 @@
 -- Ranked prices: a total means its rank times 2^44, and its size in MiB.
 use Rattle.std.specs.Prelude.{◌≡◌, ℕ, ◌/◌, ◌%◌, ◌^◌, ◌<◌, ◌≤◌, Bool, true, cond, ◌&&◌, List, map, length, ℤ, pos, ◌+ℤ◌, ◌*ℤ◌, neg_ℤ, ◌<ℤ◌, Some, None, sum_by, Option, int_le, nat_le, nat_lt}
-use Rattle.std.specs.List.{AllByRecursion as All}
+use Rattle.std.specs.List.{AllByRecursion}
 use Rattle.price.specs.Kind.{PriceKind, reach_of}
 use Rattle.price.specs.Sums.{sum_of, sum_ℤ}
 use Rattle.kinds.specs.declared.ranked.Ranked.{Ranked}
@@ -39,7 +39,7 @@ sizes ts = sum_by (λ t. t.size) ts
 -- at most 4,096 prices
 pub record Prices (ts : List Ranked) : Type 0 where
   pub few : length ts ≤ 4096
-  pub each : All (λ t. ranked_price t ≡ true) ts
+  pub each : AllByRecursion (λ t. ranked_price t ≡ true) ts
 
 -- prices add up to less where their ranks add up to less, and at equal ranks where their sizes do
 abbrev pub RanksFirst : Type 0

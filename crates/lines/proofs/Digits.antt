@@ -2,7 +2,7 @@
 use Rattle.std.proofs.Common.{◌≡◌, ℕ, ◌+◌, ◌-◌, ◌*◌, ◌^◌, ◌<◌, ◌≤◌, true, false, cond, ltb, leb, List, ◌∷◌, length, get_or, drop, Some, None, Option, ap, ◌∙◌, add-one, arith}
 use native.Mathlib.Nat.{pow-le-pow_right, pow-succ'}
 use Rattle.std.specs.Str.Parse.{digits_value_after}
-use Rattle.std.specs.Char.{is_ascii_digit, digit_value as digitValue}
+use Rattle.std.specs.Char.{is_ascii_digit, digit_value}
 use Rattle.std.specs.Str.{all_ascii_digits}
 use Rattle.std.proofs.lemmas.List.{at_drop_more}
 use Rattle.std.proofs.lemmas.Bool.Decides.{nat_tests}
@@ -12,11 +12,11 @@ use Rattle.lines.specs.Numbers.{number_in}
 abbrev pub digits_after : ℕ → List ℕ → Option ℕ
 digits_after n bs = cond (all_ascii_digits bs) (Some (digits_value_after 10 n bs)) None
 
-pub digit_value : (c : ℕ) → is_ascii_digit c ≡ true → (digitValue c ≡ c - 48) × (48 ≤ c) × (c ≤ 57)
-digit_value c h = grind (arith, nat_tests)
+pub digit_value_lem : (c : ℕ) → is_ascii_digit c ≡ true → (digit_value c ≡ c - 48) × (48 ≤ c) × (c ≤ 57)
+digit_value_lem c h = grind (arith, nat_tests)
 
 one_digit : (n c : ℕ) (cs : List ℕ) → is_ascii_digit c ≡ true → digits_after n (c ∷ cs) ≡ digits_after (n * 10 + (c - 48)) cs
-one_digit n c cs h = let d = (digit_value c h).0 in rw (h, d)
+one_digit n c cs h = let d = (digit_value_lem c h).0 in rw (h, d)
 
 pub digit_more : (n i : ℕ) (bs : List ℕ) → i < length bs → is_ascii_digit (get_or bs i 0) ≡ true → digits_after n (drop i bs) ≡ digits_after (n * 10 + (get_or bs i 0 - 48)) (drop (i + 1) bs)
 digit_more n i bs h d = at_drop_more (digits_after n) bs i 0 h ∙ one_digit n (get_or bs i 0) (drop (i + 1) bs) d

@@ -1,6 +1,6 @@
 -- Sums of totals that are few and small stay within the reach.
 use Rattle.std.proofs.Common.{◌≡◌, ℕ, suc, ◌+◌, ◌*◌, ◌<◌, ◌≤◌, List, [], ◌∷◌, map, length, get_or, drop, ℤ, pos, ◌+ℤ◌, sym, ap, ◌∙◌, mul-le-mul_right, suc-mul, arith}
-use Rattle.std.specs.List.{AllByRecursion as All}
+use Rattle.std.specs.List.{AllByRecursion}
 use Rattle.std.proofs.lemmas.List.{at_drop_more}
 use Rattle.std.proofs.lemmas.Int.{ints, clamps}
 use Rattle.price.specs.Kind.{Between, PriceKind, flow_limit, nearest, reach}
@@ -11,7 +11,7 @@ nearest_same n z b = omega (arith, ints, clamps)
 
 module _ {P : Type 0} (K : PriceKind P) where
   -- k totals of at most m each were added before, and no sum passes n
-  held_exact : (n m k : ℕ) (z : ℤ) (xs : List P) → Between (k * m) z → All (λ x. Between m (K.means x)) xs → (k + length xs) * m ≤ n
+  held_exact : (n m k : ℕ) (z : ℤ) (xs : List P) → Between (k * m) z → AllByRecursion (λ x. Between m (K.means x)) xs → (k + length xs) * m ≤ n
       → held_sum n z (map K.means xs) ≡ z +ℤ sum_of K xs
   held_exact n m k z [] b h few = omega (arith, ints)
   held_exact n m k z (x ∷ xs) b h few =

@@ -1,6 +1,6 @@
 -- What lists of totals add up to.
 use Rattle.std.specs.Prelude.{ℕ, ◌≤◌, List, [], ◌∷◌, map, length, ℤ, pos, ◌+ℤ◌}
-use Rattle.std.specs.List.{AllByRecursion as All}
+use Rattle.std.specs.List.{AllByRecursion}
 use Rattle.price.specs.Kind.{Between, PriceKind, flow_limit, nearest}
 
 -- the exact sum
@@ -20,4 +20,4 @@ held_sum n z (x ∷ xs) = held_sum n (nearest n (z +ℤ x)) xs
 -- at most 4,096 totals, each within the flow limit
 pub record Modest {P : Type 0} (K : PriceKind P) (xs : List P) : Type 0 where
   pub few : length xs ≤ 4096
-  pub small : All (λ x. Between (flow_limit K) (K.means x)) xs
+  pub small : AllByRecursion (λ x. Between (flow_limit K) (K.means x)) xs

@@ -1,5 +1,5 @@
 ghost use Rattle.std.specs.Prelude.{◌≡◌, true, pos, ◌+ℤ◌, ◌-ℤ◌, ◌<ℤ◌, Decides};
-ghost use Rattle.std.specs.Ordering.{MatchOrdering as Compared};
+ghost use Rattle.std.specs.Ordering.{MatchOrdering};
 ghost use Rattle.price.specs.Kind.{Between, PriceKind, Same, Sound, flow_limit, nearest, reach};
 
 use std::cmp::Ordering;
@@ -33,7 +33,7 @@ pub trait Price: Copy {
 
     // Less, equal or greater, as the meanings are.
     fn compare(self, other: Self) -> Ordering
-        ensures { Compared result (kind.means self <ℤ kind.means other) (Same kind self other) (kind.means other <ℤ kind.means self) };
+        ensures { MatchOrdering result (kind.means self <ℤ kind.means other) (Same kind self other) (kind.means other <ℤ kind.means self) };
 
     // Whether a total is a price of the kind.
     fn is_price(self) -> bool

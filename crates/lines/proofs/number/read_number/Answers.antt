@@ -1,7 +1,7 @@
 use Rattle.std.proofs.Common.{◌<◌, length, get_or, sym, ◌∙◌, arith}
 use Rattle.std.proofs.lemmas.List.{at_drop_all}
 use Rattle.std.proofs.lemmas.Bool.Decides.{nat_tests}
-use Rattle.lines.proofs.Digits.{digit_bound, digit_more, digit_none, digit_value, digits_fit, digits_after, number_by_digits}
+use Rattle.lines.proofs.Digits.{digit_bound, digit_more, digit_none, digit_value_lem, digits_fit, digits_after, number_by_digits}
 use Rattle.lines.proofs.number.read_number.Goals as goal
 
 -- the field is neither empty nor too long
@@ -19,13 +19,13 @@ overflow_mul-n c = omega (arith, digits_fit c.loop-digit.n c.loop-digit.digit-in
 
 pub overflow_add-n : goal.overflow_add-n
 overflow_add-n c =
-    let value = digit_value (get_or c.args.field.now c.loop-digit.digit-index 0) (sym c.if-not-is_ascii_digit.ensures.value) in
+    let value = digit_value_lem (get_or c.args.field.now c.loop-digit.digit-index 0) (sym c.if-not-is_ascii_digit.ensures.value) in
     omega (arith, digits_fit c.loop-digit.n c.loop-digit.digit-index c.from.result (omega arith) (omega arith) c.loop-digit.invariant.1)
 
 pub loop-digit-preserved : goal.loop-digit-preserved
 loop-digit-preserved c =
     let digit = sym c.if-not-is_ascii_digit.ensures.value in
-    let value = digit_value (get_or c.args.field.now c.loop-digit.digit-index 0) digit in
+    let value = digit_value_lem (get_or c.args.field.now c.loop-digit.digit-index 0) digit in
     let more = digit_more c.loop-digit.n c.loop-digit.digit-index c.args.field.now c.loop-digit-test.true digit in
     (rw c.from.ensures (sym more ∙ c.loop-digit.invariant.0), digit_bound c.loop-digit.n c.loop-digit.digit-index c.from.result (omega arith) c.loop-digit.invariant.1)
 
