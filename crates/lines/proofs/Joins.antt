@@ -1,7 +1,7 @@
 -- What is put on a line in parts is what is put on it at once.
-use Rattle.std.proofs.Common.{◌≡◌, ℕ, zero, suc, ◌+◌, ◌/◌, ◌%◌, ◌^◌, ◌<◌, ◌≤◌, List, [], ◌∷◌, ◌++◌, length, get_or, take, set, decimal, sym, refl, ap, ◌∙◌, arith, length-append}
-use Rattle.std.proofs.lemmas.List.{append_assoc, append-nil, length-take, length-take-le, take_all, take-append-le, take_more, take_more_set}
-use Rattle.std.proofs.lemmas.Fmt.{decimal_digit, decimal_step}
+use Rattle.std.proofs.Common.{◌≡◌, ℕ, zero, suc, ◌+◌, ◌≤◌, List, [], ◌∷◌, ◌++◌, length, take, min, sym, refl, ap, ◌∙◌, arith}
+use Rattle.std.proofs.Math.Seq.{take-append-add}
+use Rattle.std.proofs.lemmas.List.{append_assoc, append-nil, take_all, take_min}
 use Rattle.lines.specs.Texts.{joined_on}
 
 take_front : (n : ℕ) (a b : List ℕ) → take n (take n a ++ b) ≡ take n (a ++ b)
@@ -12,46 +12,12 @@ take_front (suc n) (x ∷ a) b = ap (λ t. x ∷ t) (take_front n a b)
 pub joined_again : (a b c : List ℕ) → joined_on (joined_on a b) c ≡ joined_on a (b ++ c)
 joined_again a b c = take_front 64 (a ++ b) c ∙ ap (take 64) (append_assoc a b c)
 
--- one byte more on a line with room for it
-pub pushed : (bytes : List ℕ) (len byte : ℕ) → len < 64 → length bytes ≡ 64 → take (len + 1) (set bytes len byte) ≡ joined_on (take len bytes) (byte ∷ [])
-pushed bytes len byte room size =
-    let inside : len < length bytes = omega arith in
-    let front : length (take len bytes) ≡ len = length-take-le len bytes (omega arith) in
-    let short : length (take len bytes ++ (byte ∷ [])) ≤ 64 = omega (arith, length-append (take len bytes) (byte ∷ [])) in
-    take_more_set bytes len byte inside ∙ sym (take_all 64 _ short)
-
--- on a full line nothing goes
-pub full : (bytes more : List ℕ) (len : ℕ) → 64 ≤ len → len ≤ 64 → length bytes ≡ 64 → take len bytes ≡ joined_on (take len bytes) more
-full bytes more len low high size =
-    let all : take len bytes ≡ bytes = take_all len bytes (omega arith) in
-    let same : take 64 (bytes ++ more) ≡ take 64 bytes = take-append-le 64 bytes more (omega arith) in
-    let whole : take 64 bytes ≡ bytes = take_all 64 bytes (omega arith) in
-    rw all (sym (same ∙ whole))
-
--- nothing more
-pub joined_none : (bytes : List ℕ) (len : ℕ) → len ≤ 64 → take len bytes ≡ joined_on (take len bytes) []
-joined_none bytes len short =
-    let few : length (take len bytes) ≤ 64 = omega (arith, length-take len bytes) in
-    sym (ap (take 64) (append-nil (take len bytes)) ∙ take_all 64 _ few)
-
--- one byte of a text more
-pub joined_more : (start text : List ℕ) (i : ℕ) (was now : List ℕ) → i < length text → was ≡ joined_on start (take i text) → now ≡ joined_on was (get_or text i 0 ∷ [])
-    → now ≡ joined_on start (take (i + 1) text)
-joined_more start text i was now within before is =
-    let more = take_more text i 0 within in
-    is ∙ ap (λ t. joined_on t (get_or text i 0 ∷ [])) before ∙ joined_again start (take i text) (get_or text i 0 ∷ []) ∙ ap (joined_on start) (sym more)
-
--- the last digit after the others
-pub joined_digit : (start was now : List ℕ) (n : ℕ) → 10 ≤ n → n < 2 ^ 64 → was ≡ joined_on start (decimal (n / 10)) → now ≡ joined_on was ((48 + n % 10) ∷ [])
-    → now ≡ joined_on start (decimal n)
-joined_digit start was now n many fits before is =
-    is ∙ ap (λ t. joined_on t ((48 + n % 10) ∷ [])) before ∙ joined_again start (decimal (n / 10)) ((48 + n % 10) ∷ []) ∙ ap (joined_on start) (sym (decimal_step n many fits))
-
--- a number of one digit
-pub joined_one : (start was now : List ℕ) (n : ℕ) → n < 10 → was ≡ start → now ≡ joined_on was ((48 + n % 10) ∷ []) → now ≡ joined_on start (decimal n)
-joined_one start was now n few before is =
-    let same : n % 10 ≡ n = omega arith in
-    is ∙ ap (λ t. joined_on t ((48 + n % 10) ∷ [])) before ∙ ap (λ d. joined_on start ((48 + d) ∷ [])) same ∙ ap (joined_on start) (sym (decimal_digit n few))
+-- as much of a text as a line has room for
+pub joined_room : (a b : List ℕ) (left : ℕ) → left + length a ≡ 64 → a ++ take (min left (length b)) b ≡ joined_on a b
+joined_room a b left all =
+    let size : length a + left ≡ 64 = omega (arith, all) in
+    let front = take-append-add a b left in
+    rw (take_min left b) (sym front ∙ ap (λ n. take n (a ++ b)) size)
 
 -- parts put on a line that held `was`, one after another, so that it holds `now`
 abbrev pub Puts : List ℕ → List (List ℕ) → List ℕ → Type 0

@@ -2,3 +2,4 @@ pub mod Numbers
 pub mod Texts
 pub mod Buffers
 pub mod Split
+pub mod Left

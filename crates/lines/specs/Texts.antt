@@ -1,10 +1,5 @@
 -- What a line holds.
 use Rattle.std.specs.Prelude.{ℕ, List, ◌++◌, take}
-use Rattle.lines.specs.declared.line.Line.{Line}
-
--- the bytes put on the line so far
-abbrev pub line_text : Line → List ℕ
-line_text l = take l.len l.bytes
 
 -- a line with more put on it: it has room for 64 bytes, and what is beyond them is left out
 abbrev pub joined_on : List ℕ → List ℕ → List ℕ

@@ -1,14 +1,73 @@
-ghost use Rattle.std.specs.Prelude.{◌≤◌};
+ghost use Rattle.std.specs.Prelude.{◌≡◌, ℕ, [], ◌∷◌, List, decimal};
+ghost use Rattle.lines.specs.Buffers.{filled, fitted};
+ghost use Rattle.lines.specs.Texts.{joined_on};
 
-mod methods;
+use arrayvec::ArrayVec;
+use itoa::Buffer;
+use std::marker::Model;
 
-// How many bytes a line has room for.
-const ROOM: usize = 64;
-
-// A line of text that is being made.
+// A line of text that is being made: the bytes put on it so far, at most 64.
 #[derive(Drop)]
 pub struct Line {
-    bytes: [u8; 64],
-    len: usize,
-    ghost within: { len ≤ 64 },
+    bytes: ArrayVec<u8, 64>,
+}
+
+impl Model for Line {
+    ghost Value = { List ℕ };
+
+    ghost view = { λ l. l.bytes.items };
+}
+
+impl Line {
+    // A line with nothing on it.
+    pub fn new() -> Line
+        ensures { result ≡ [] }
+    {
+        Line {
+            bytes: ArrayVec::new(),
+        }
+    }
+
+    // More bytes. What the line has no room for is left out.
+    pub fn put(&mut self, text: &[u8])
+        ensures { self.new ≡ joined_on self.old text.now }
+    {
+        let room = self.bytes.remaining_capacity().min(text.len());
+        let _ = self.bytes.try_extend_from_slice(&text[..room]);
+    }
+
+    // One byte more.
+    pub fn push(&mut self, byte: u8)
+        ensures { self.new ≡ joined_on self.old (byte ∷ []) }
+    {
+        self.put(&[byte]);
+    }
+
+    // A number in decimal digits, with no leading zero.
+    pub fn put_number(&mut self, n: u64)
+        ensures { self.new ≡ joined_on self.old (decimal n) }
+    {
+        self.put(Buffer::new().format(n).as_bytes());
+    }
+
+    // The bytes on the line.
+    pub fn as_bytes(&self) -> &[u8]
+        ensures { result.now ≡ self.now }
+    {
+        self.bytes.as_slice()
+    }
+
+    // Copies the line to the front of a buffer and answers its length; none, and nothing copied, where it is too long.
+    pub fn copy_to(&self, buffer: &mut [u8]) -> Option<usize>
+        ensures answer { result ≡ fitted self.now buffer.old }
+        ensures buffer { buffer.new ≡ filled self.now buffer.old }
+    {
+        let bytes = self.as_bytes();
+        let len = bytes.len();
+        if buffer.len() < len {
+            return None;
+        }
+        buffer[..len].copy_from_slice(bytes);
+        Some(len)
+    }
 }
