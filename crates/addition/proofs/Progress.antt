@@ -6,14 +6,13 @@ use Rattle.std.proofs.ByRecursion.{All-more, All-weaker, sum_by_le}
 use Rattle.std.proofs.lemmas.List.{drop-drop, get_or-drop, take_all}
 use Rattle.std.proofs.lemmas.List.Sums.{sum_by_more}
 use Rattle.std.proofs.lemmas.Int.{ints, clamps}
-use Rattle.lines.specs.Split.{lines_of}
 use Rattle.price.specs.Kind.{Between, PriceKind, Sound, flow_limit, nearest, reach}
 use Rattle.refusal.specs.declared.Refusal.TheVariants.{NoPlace, NotAPrice}
 use Rattle.addition.specs.Adding.{Adds, Priced, Refuses, Writes}
 
 -- where a list goes on with x
-next : (xs : List (List ℕ)) (i : ℕ) (x : List ℕ) (ys : List (List ℕ)) → x ∷ ys ≡ drop i xs → (i < length xs) × (get_or xs i [] ≡ x) × (ys ≡ drop (i + 1) xs)
-next xs i x ys e =
+next_of : (xs : List (List ℕ)) (i : ℕ) (x : List ℕ) (ys : List (List ℕ)) → x ∷ ys ≡ drop i xs → (i < length xs) × (get_or xs i [] ≡ x) × (ys ≡ drop (i + 1) xs)
+next_of xs i x ys e =
     let size = ap length e ∙ length-drop i xs in
     let here = ap (λ zs. get_or zs 0 []) e ∙ get_or-drop i xs 0 [] in
     let rest = ap (drop 1) e ∙ drop-drop 1 i xs in
@@ -21,15 +20,17 @@ next xs i x ys e =
     (omega arith, sym (rw zero at here), rest)
 
 module _ {P : Type 0} (K : PriceKind P) where
-  -- the first lines of the text were read, and the rest of it is left
-  pub record Progress (text rest : List ℕ) (count : ℕ) (total : P) : Type 0 where
-    pub left : lines_of rest ≡ drop count (lines_of text)
+  -- the lines before the one with this number were read, and those that are left follow
+  pub record Progress (lines left : List (List ℕ)) (number : ℕ) (total : P) : Type 0 where
+    pub count : ℕ
+    pub next_line : number ≡ count + 1
+    pub rest : left ≡ drop count lines
     pub few : count ≤ 4096
-    pub each : AllByRecursion (Priced K) (take count (lines_of text))
-    pub sum : K.means total ≡ pos (sum_by (digits_value 10) (take count (lines_of text)))
+    pub each : AllByRecursion (Priced K) (take count lines)
+    pub sum : K.means total ≡ pos (sum_by (digits_value 10) (take count lines))
 
-  pub started : (text : List ℕ) (total : P) → K.means total ≡ pos 0 → Progress text text 0 total
-  started text total zero = record { left = refl; few = omega arith; each = tt; sum = zero }
+  pub started : (lines : List (List ℕ)) (total : P) → K.means total ≡ pos 0 → Progress lines lines 1 total
+  started lines total zero = record { count = 0; next_line = refl; rest = refl; few = omega arith; each = tt; sum = zero }
 
   price_most : Sound K → (line : List ℕ) → Priced K line → digits_value 10 line ≤ K.largest
   price_most sound line (p, w) = let means = w.price.means in let most = sound.price_high p w.price.price in omega (arith, ints)
@@ -41,40 +42,37 @@ module _ {P : Type 0} (K : PriceKind P) where
       let wide = mul-le-mul_right K.largest few in
       omega arith
 
-  pub one_more : Sound K → (text rest after line : List ℕ) (count : ℕ) (total p more : P) → Progress text rest count total → lines_of rest ≡ line ∷ lines_of after → Writes K line p → count < 4096
-      → K.means more ≡ nearest (reach K) (K.means total +ℤ K.means p) → Progress text after (count + 1) more
-  one_more sound text rest after line count total p more so goes writes room is =
-      let lines = lines_of text in
-      let at = next lines count line (lines_of after) (sym goes ∙ so.left) in
+  pub one_more : Sound K → {lines left more : List (List ℕ)} {line : List ℕ} {number next : ℕ} {total p sum : P} → Progress lines left number total → left ≡ line ∷ more → Writes K line p
+      → number ≤ 4096 → next ≡ number + 1 → K.means sum ≡ nearest (reach K) (K.means total +ℤ K.means p) → Progress lines more next sum
+  one_more sound {lines} {left} {more} {line} {number} {next} {total} {p} {sum} so goes writes room then is =
+      let count = so.count in
+      let at = next_of lines count line more (sym goes ∙ so.rest) in
       let priced : Priced K (get_or lines count []) = (p, subst (λ l. Writes K l p) (sym at.1) writes) in
       let each = All-more (Priced K) lines count [] at.0 so.each priced in
       let step : sum_by (digits_value 10) (take (count + 1) lines) ≡ sum_by (digits_value 10) (take count lines) + digits_value 10 line = sum_by_more (digits_value 10) lines count [] at.0 ∙ ap (λ l. sum_by (digits_value 10) (take count lines) + digits_value 10 l) at.1 in
-      let short : length (take (count + 1) lines) ≤ 4096 = omega (arith, length-take (count + 1) lines) in
+      let short : length (take (count + 1) lines) ≤ 4096 = omega (arith, so.next_line, length-take (count + 1) lines) in
       let most = sum_most sound (take (count + 1) lines) 4096 short each in
       let before = so.sum in
       let adds = writes.price.means in
-      record { left = at.2; few = omega arith; each = each; sum = omega (arith, ints, clamps) }
+      record { count = count + 1; next_line = omega (arith, so.next_line); rest = at.2; few = omega (arith, so.next_line); each = each; sum = omega (arith, ints, clamps) }
 
-  pub finished : (text rest : List ℕ) (count : ℕ) (total : P) → Progress text rest count total → lines_of rest ≡ [] → Adds K (lines_of text) total
-  finished text rest count total so none =
-      let lines = lines_of text in
-      let size = ap length (sym none ∙ so.left) ∙ length-drop count lines in
-      let all : take count lines ≡ lines = take_all count lines (omega arith) in
+  pub finished : {lines left : List (List ℕ)} {number : ℕ} {total : P} → Progress lines left number total → left ≡ [] → Adds K lines total
+  finished {lines} so none =
+      let size = ap length (sym none ∙ so.rest) ∙ length-drop so.count lines in
+      let all : take so.count lines ≡ lines = take_all so.count lines (omega arith) in
       record { few = omega (arith, so.few); each = subst (AllByRecursion (Priced K)) all so.each; sum = so.sum ∙ ap (λ l. pos (sum_by (digits_value 10) l)) all }
 
-  pub no_price : (text rest after line : List ℕ) (count : ℕ) (total : P) → Progress text rest count total → lines_of rest ≡ line ∷ lines_of after → (Priced K line → ⊥)
-      → Refuses K (lines_of text) (NotAPrice (count + 1))
-  no_price text rest after line count total so goes bad =
-      let at = next (lines_of text) count line (lines_of after) (sym goes ∙ so.left) in
-      record { index = count; within = at.0; few = so.few; before = so.each; cause = inl (λ good. bad (subst (Priced K) at.1 good), refl) }
+  pub no_price : {lines left more : List (List ℕ)} {line : List ℕ} {number : ℕ} {total : P} → Progress lines left number total → left ≡ line ∷ more → (Priced K line → ⊥) → Refuses K lines (NotAPrice number)
+  no_price {lines} {left} {more} {line} so goes bad =
+      let at = next_of lines so.count line more (sym goes ∙ so.rest) in
+      record { index = so.count; within = at.0; few = so.few; before = so.each; cause = inl (λ good. bad (subst (Priced K) at.1 good), ap NotAPrice so.next_line) }
 
-  pub no_place : (text rest after line : List ℕ) (count : ℕ) (total p : P) → Progress text rest count total → lines_of rest ≡ line ∷ lines_of after → Writes K line p → 4096 < count + 1
-      → Refuses K (lines_of text) (NoPlace (count + 1))
-  no_place text rest after line count total p so goes writes full =
-      let at = next (lines_of text) count line (lines_of after) (sym goes ∙ so.left) in
-      let few = so.few in
-      let last : count ≡ 4096 = omega arith in
-      record { index = count; within = at.0; few = few; before = so.each; cause = inr ((p, subst (λ l. Writes K l p) (sym at.1) writes), last, refl) }
+  pub no_place : {lines left more : List (List ℕ)} {line : List ℕ} {number : ℕ} {total p : P} → Progress lines left number total → left ≡ line ∷ more → Writes K line p → 4096 < number
+      → Refuses K lines (NoPlace number)
+  no_place {lines} {left} {more} {line} {number} {total} {p} so goes writes full =
+      let at = next_of lines so.count line more (sym goes ∙ so.rest) in
+      let last : so.count ≡ 4096 = omega (arith, so.few, so.next_line) in
+      record { index = so.count; within = at.0; few = so.few; before = so.each; cause = inr ((p, subst (λ l. Writes K l p) (sym at.1) writes), last, ap NoPlace so.next_line) }
 
   pub total_within : Sound K → (lines : List (List ℕ)) (total : P) → Adds K lines total → Between (flow_limit K) (K.means total)
   total_within sound lines total adds =

@@ -1,16 +1,13 @@
 -- A text of prices, one to a line, and what they add up to.
-use Rattle.std.specs.Prelude.{◌≡◌, ℕ, ◌+◌, ◌<◌, ◌≤◌, true, ◌⊎◌, List, [], ◌++◌, length, take, pos, is_ok, Ok, Err, codes, sum_by, Result, slice_index_or}
+use Rattle.std.specs.Prelude.{◌≡◌, ℕ, ◌+◌, ◌<◌, ◌≤◌, true, ◌⊎◌, List, [], ◌++◌, length, take, pos, Ok, Err, codes, sum_by, Result, slice_index_or}
 use Rattle.std.specs.Str.Parse.{digits_value}
 use Rattle.std.specs.List.{AllByRecursion}
 use Rattle.lines.specs.Numbers.{is_number}
 use Rattle.lines.specs.Split.{lines_of}
-use Rattle.lines.specs.Texts.{line_text}
 use Rattle.price.specs.Kind.{PriceKind}
 use Rattle.price.specs.WrittenKind.{IsPriceOf, digits_of}
-use Rattle.refusal.specs.Numbered.{refusal_text}
 use Rattle.refusal.specs.declared.Refusal.{Refusal}
 use Rattle.refusal.specs.declared.Refusal.TheVariants.{NoPlace, NotAPrice}
-use Rattle.addition.specs.declared.Answer.{Answer}
 
 -- p is the price that a line writes
 pub record Writes {P : Type 0} (K : PriceKind P) (line : List ℕ) (p : P) : Type 0 where
@@ -39,14 +36,7 @@ abbrev pub AddsUp : {P : Type 0} → PriceKind P → List ℕ → Result P Refus
 AddsUp K text (Ok total) = Adds K (lines_of text) total
 AddsUp K text (Err e) = Refuses K (lines_of text) e
 
--- the line that is printed
-abbrev pub answer_text : {P : Type 0} → PriceKind P → Result P Refusal → List ℕ
-answer_text K (Ok total) = codes "s " ++ (digits_of K total ++ codes "\n")
-answer_text K (Err e) = refusal_text e
-
--- the answer tells what the text adds up to
-pub record Answers {P : Type 0} (K : PriceKind P) (text : List ℕ) (answer : Answer) : Type 0 where
-  pub result : Result P Refusal
-  pub adds : AddsUp K text result
-  pub line : line_text answer.line ≡ answer_text K result
-  pub served : answer.served ≡ is_ok result
+-- the answer is the line of what the text adds up to, or the refusal
+abbrev pub Answers : {P : Type 0} → PriceKind P → List ℕ → Result (List ℕ) Refusal → Type 0
+Answers K text (Ok line) = (total : _) × Adds K (lines_of text) total × (line ≡ codes "s " ++ (digits_of K total ++ codes "\n"))
+Answers K text (Err e) = Refuses K (lines_of text) e

@@ -9,11 +9,14 @@ use std::io::{Read, Write};
 fn main(rt: HostRuntime) -> anyhow::Result<()> {
     let mut text = Vec::new(rt.alloc());
     rt.stdin().read_to_end(&mut text)?;
-    let answer = answer_text::<Size>(&text);
-    rt.stdout().write_all(answer.line.as_bytes())?;
-    if answer.served {
-        Ok(())
-    } else {
-        Err(anyhow!("refused"))
+    match answer_text::<Size>(&text) {
+        Ok(line) => {
+            rt.stdout().write_all(line.as_bytes())?;
+            Ok(())
+        }
+        Err(refusal) => {
+            rt.stdout().write_all(refusal.line().as_bytes())?;
+            Err(anyhow!("refused"))
+        }
     }
 }

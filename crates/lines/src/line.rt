@@ -1,4 +1,4 @@
-ghost use Rattle.std.specs.Prelude.{◌≡◌, ℕ, [], ◌∷◌, List, decimal};
+ghost use Rattle.std.specs.Prelude.{◌≡◌, ℕ, ◌≤◌, [], ◌∷◌, List, length, decimal};
 ghost use Rattle.lines.specs.Buffers.{filled, fitted};
 ghost use Rattle.lines.specs.Texts.{joined_on};
 
@@ -52,7 +52,8 @@ impl Line {
 
     // The bytes on the line.
     pub fn as_bytes(&self) -> &[u8]
-        ensures { result.now ≡ self.now }
+        ensures bytes { result.now ≡ self.now }
+        ensures few { length result.now ≤ 64 }
     {
         self.bytes.as_slice()
     }

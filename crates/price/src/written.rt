@@ -1,6 +1,6 @@
-ghost use Rattle.std.specs.Prelude.{◌≡◌, ◌^◌, ◌<◌, if◌then◌else◌, Decides};
+ghost use Rattle.std.specs.Prelude.{◌≡◌, ◌^◌, ◌<◌, ◌↔◌, if◌then◌else◌, is_some, IsSome};
 ghost use Rattle.std.specs.Option.{SomeIff};
-ghost use Rattle.lines.specs.Texts.{joined_on, line_text};
+ghost use Rattle.lines.specs.Texts.{joined_on};
 ghost use Rattle.price.specs.Kind.{Between, flow_limit};
 ghost use Rattle.price.specs.WrittenKind.{PriceOf, digits_of};
 
@@ -18,18 +18,13 @@ pub trait Written: Price {
         ensures { PriceOf Self.Price.kind n result };
 
     // Puts the decimal digits of a total within the flow limit on a line, without its sign;
-    // beyond the limit the answer is false and the line stays.
-    fn put_digits(self, line: &mut Line) -> bool
-        ensures served { Decides result (Between (flow_limit Self.Price.kind) (Self.Price.kind.means self)) }
-        ensures line { line_text line.new ≡ (if result then joined_on (line_text line.old) (digits_of Self.Price.kind self) else line_text line.old) }
+    // beyond the limit the answer is none and the line stays.
+    fn put_digits(self, line: &mut Line) -> Option<()>
+        ensures served { IsSome result ↔ Between (flow_limit Self.Price.kind) (Self.Price.kind.means self) }
+        ensures line { line.new ≡ (if is_some result then joined_on line.old (digits_of Self.Price.kind self) else line.old) }
     {
-        match self.whole() {
-            Some(n) => {
-                line.put_number(n.unsigned_abs());
-                true
-            }
-            None => false,
-        }
+        line.put_number(self.whole()?.unsigned_abs());
+        Some(())
     }
 
     // Prices have at most 15 digits.

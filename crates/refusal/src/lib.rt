@@ -3,7 +3,6 @@
 ghost use Rattle.std.specs.Prelude.{◌≡◌};
 ghost use Rattle.std.specs.Option.{ok_or};
 ghost use Rattle.lines.specs.Buffers.{filled, fitted};
-ghost use Rattle.lines.specs.Texts.{line_text};
 ghost use Rattle.refusal.specs.Numbered.{number_of, place_of, refusal_text};
 ghost use Rattle.refusal.specs.declared.Refusal.TheVariants.{ShortBuffer};
 
@@ -57,7 +56,7 @@ pub enum Refusal {
 }
 
 impl Refusal {
-    // The number by which the refusal is known.
+    // The number by which the refusal is known: the product's table. A case that carries a value has no cast to a number.
     pub fn number(self) -> u8
         ensures { result ≡ number_of self }
     {
@@ -114,9 +113,10 @@ impl Refusal {
         }
     }
 
-    // The line that tells the refusal: `c refused NUMBER PLACE`.
+    // The line that tells the refusal: `c refused NUMBER PLACE`. Put together here and not by `Display`, since a formatter may
+    // fail and this cannot.
     pub fn line(self) -> Line
-        ensures { line_text result ≡ refusal_text self }
+        ensures { result ≡ refusal_text self }
     {
         let mut line = Line::new();
         line.put(b"c refused ");

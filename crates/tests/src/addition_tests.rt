@@ -1,7 +1,14 @@
 use addition::answer_text;
 use kinds::ranked::Ranked;
 use kinds::size::Size;
+use lines::line::Line;
+use price::written::Written;
 use std::test::Fail;
+
+// The line that answers a text, served or refused.
+fn printed<W: Written>(text: &[u8]) -> Line {
+    answer_text::<W>(text).unwrap_or_else(|refusal| refusal.line())
+}
 
 #[test]
 fn texts_of_sizes(rt: HostRuntime) {
@@ -23,7 +30,7 @@ fn texts_of_sizes(rt: HostRuntime) {
         (b"+1\n", b"c refused 16 1\n"),
     ];
     for (text, line) in cases {
-        assert!(rt; answer_text::<Size>(text).line.as_bytes() == line);
+        assert!(rt; printed::<Size>(text).as_bytes() == line);
     }
 }
 
@@ -39,7 +46,7 @@ fn texts_of_ranked_prices(rt: HostRuntime) {
         (b"4294967296\n", b"c refused 16 1\n"),
     ];
     for (text, line) in cases {
-        assert!(rt; answer_text::<Ranked>(text).line.as_bytes() == line);
+        assert!(rt; printed::<Ranked>(text).as_bytes() == line);
     }
 }
 
@@ -49,10 +56,9 @@ fn as_many_lines_as_feeds(rt: HostRuntime) -> Result<(), Fail> {
     for _ in 0..4096 {
         text.extend_from_slice(b"4294967295\n")?;
     }
-    assert!(rt; answer_text::<Size>(&text).line.as_bytes() == b"s 17592186040320\n".as_slice());
+    assert!(rt; printed::<Size>(&text).as_bytes() == b"s 17592186040320\n".as_slice());
     text.extend_from_slice(b"1\n")?;
-    let answer = answer_text::<Size>(&text);
-    assert!(rt; !answer.served);
-    assert!(rt; answer.line.as_bytes() == b"c refused 17 4097\n".as_slice());
+    assert!(rt; answer_text::<Size>(&text).is_err());
+    assert!(rt; printed::<Size>(&text).as_bytes() == b"c refused 17 4097\n".as_slice());
     Ok(())
 }

@@ -1,19 +1,35 @@
-use Rattle.std.proofs.Common.{ap, arith}
+use Rattle.std.proofs.Common.{◌≡◌, arith, inl, inr}
+use Rattle.std.proofs.lemmas.Result.{err_from_is_err_and}
 use Rattle.lines.specs.Split.{lines_of}
-use Rattle.addition.proofs.Progress.{finished, no_place, no_price, one_more}
+use Rattle.refusal.specs.declared.Refusal.TheVariants.{NotAPrice}
+use Rattle.addition.proofs.Progress.{finished, no_place, no_price, one_more, started}
 use Rattle.addition.proofs.add_up.Goals as goal
 
-pub returns-in_default-price_on : goal.returns-in_default-price_on
-returns-in_default-price_on g c =
-    no_price g.W.Price.kind c.args.text.now c.loop-line.rest.now c.in-Some.after.now c.in-Some.line.now c.loop-line.count c.loop-line.total c.loop-line.invariant c.in-Some.ensures.lines c.in_default-price_on.ensures
+pub loop-line-init : goal.loop-line-init
+loop-line-init g c =
+    let zip = c.zip-line-items.ensures in
+    rw (c.into_iter-line-iterator.ensures.into_iter_gives, zip.first, zip.second, c.of.ensures) (started g.W.Price.kind (lines_of c.args.text.now) c.zero-total.result c.zero-total.ensures.means)
 
-pub returns-then-count-gt-MOST_LINES : goal.returns-then-count-gt-MOST_LINES
-returns-then-count-gt-MOST_LINES g c =
-    no_place g.W.Price.kind c.args.text.now c.loop-line.rest.now c.in-Some.after.now c.in-Some.line.now c.loop-line.count c.loop-line.total c.in-Some-price_on.price c.loop-line.invariant c.in-Some.ensures.lines c.in-Some-price_on.ensures c.if-count-gt-MOST_LINES.true
+pub returns-in_err-price : goal.returns-in_err-price
+returns-in_err-price g c =
+    let p = err_from_is_err_and c.from_residual.result c.from_residual.ensures.1 in
+    let bad = rw c.in_err-price.ensures.ok_part at c.price_on.ensures in
+    let steps = c.in-Some.ensures.steps in
+    let refused = no_price g.W.Price.kind c.loop-line.invariant steps.0 bad in
+    let cause : c.in_err-price.field-0.0 ≡ NotAPrice c.in-Some.number = grind arith in
+    rw (p.1, p.2, cause, steps.1.0) refused
+
+pub returns-then-number-gt-MOST_LINES : goal.returns-then-number-gt-MOST_LINES
+returns-then-number-gt-MOST_LINES g c =
+    let writes = rw c.in_ok-price.ensures.ok_part at c.price_on.ensures in
+    let steps = c.in-Some.ensures.steps in
+    rw steps.1.0 (no_place g.W.Price.kind c.loop-line.invariant steps.0 writes (omega arith))
 
 pub loop-line-preserved : goal.loop-line-preserved
 loop-line-preserved g c =
-    one_more g.W.Price.kind g.met.W.Price.sound c.args.text.now c.loop-line.rest.now c.in-Some.after.now c.in-Some.line.now c.loop-line.count c.loop-line.total c.in-Some-price_on.price c.plus-total.result c.loop-line.invariant c.in-Some.ensures.lines c.in-Some-price_on.ensures (omega arith) c.plus-total.ensures.means
+    let writes = rw c.in_ok-price.ensures.ok_part at c.price_on.ensures in
+    let steps = c.in-Some.ensures.steps in
+    one_more g.W.Price.kind g.met.W.Price.sound c.loop-line.invariant steps.0 writes (omega arith) (omega arith) c.plus-total.ensures.means
 
 pub returns : goal.returns
-returns g c = finished g.W.Price.kind c.args.text.now c.loop-line.rest.now c.loop-line.count c.loop-line.total c.loop-line.invariant (ap lines_of c.in_default.ensures)
+returns g c = finished g.W.Price.kind c.loop-line.invariant (elim c.in-None.ensures.steps [ inl l ↦ l.1.0 | inr r ↦ absurd (omega (arith, c.loop-line.invariant.few, c.loop-line.invariant.next_line)) ])

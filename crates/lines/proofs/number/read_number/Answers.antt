@@ -1,18 +1,12 @@
 use Rattle.std.proofs.Common.{◌<◌, length, get_or, sym, ◌∙◌, arith}
 use Rattle.std.proofs.lemmas.List.{at_drop_all}
 use Rattle.std.proofs.lemmas.Bool.Decides.{nat_tests}
-use Rattle.lines.proofs.Digits.{digit_bound, digit_more, digit_none, digit_value_lem, digits_fit, digits_after, number_by_digits}
+use Rattle.lines.proofs.Digits.{digit_value_lem, digits_fit, digits_after, number_by_digits}
 use Rattle.lines.proofs.number.read_number.Goals as goal
 
 -- the field is neither empty nor too long
 some : (c : goal.After-loop-digit) → 0 < length c.args.field.now
 some c = grind (arith, nat_tests)
-
-pub returns-then-not-is_ascii_digit : goal.returns-then-not-is_ascii_digit
-returns-then-not-is_ascii_digit c =
-    let none = digit_none c.loop-digit.n c.loop-digit.digit-index c.args.field.now c.loop-digit-test.true (sym c.if-not-is_ascii_digit.ensures.value) in
-    let whole = number_by_digits c.args.field.now (grind (arith, nat_tests)) (omega arith) in
-    sym none ∙ c.loop-digit.invariant.0 ∙ whole
 
 pub overflow_mul-n : goal.overflow_mul-n
 overflow_mul-n c = omega (arith, digits_fit c.loop-digit.n c.loop-digit.digit-index 0 (omega arith) (omega arith) c.loop-digit.invariant.1)
@@ -21,13 +15,6 @@ pub overflow_add-n : goal.overflow_add-n
 overflow_add-n c =
     let value = digit_value_lem (get_or c.args.field.now c.loop-digit.digit-index 0) (sym c.if-not-is_ascii_digit.ensures.value) in
     omega (arith, digits_fit c.loop-digit.n c.loop-digit.digit-index c.from.result (omega arith) (omega arith) c.loop-digit.invariant.1)
-
-pub loop-digit-preserved : goal.loop-digit-preserved
-loop-digit-preserved c =
-    let digit = sym c.if-not-is_ascii_digit.ensures.value in
-    let value = digit_value_lem (get_or c.args.field.now c.loop-digit.digit-index 0) digit in
-    let more = digit_more c.loop-digit.n c.loop-digit.digit-index c.args.field.now c.loop-digit-test.true digit in
-    (rw c.from.ensures (sym more ∙ c.loop-digit.invariant.0), digit_bound c.loop-digit.n c.loop-digit.digit-index c.from.result (omega arith) c.loop-digit.invariant.1)
 
 pub returns : goal.returns
 returns c =

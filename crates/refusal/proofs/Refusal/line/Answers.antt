@@ -1,13 +1,12 @@
 use Rattle.std.proofs.Common.{refl, arith}
 use Rattle.lines.proofs.Joins.{Puts}
-use Rattle.lines.specs.Texts.{line_text}
 use Rattle.refusal.proofs.Told.{parts, told}
 use Rattle.refusal.proofs.Refusal.line.Goals as goal
 
 pub returns : goal.returns
 returns c =
-    let start = line_text c.new-line.result in
-    let end = line_text c.push-2.new.self in
+    let start = c.new-line.result in
+    let end = c.push-2.new.self in
     let puts : Puts start (parts c.from.result c.place.result) end =
     (_, c.put.ensures, (_, c.put_number.ensures, (_, c.push.ensures, (_, c.put_number-2.ensures, (_, c.push-2.ensures, refl))))) in
     let whole = told c.from.result c.place.result start end (omega arith) (omega arith) c.new-line.ensures puts in
