@@ -15,7 +15,7 @@ fn main(rt: HostRuntime) -> anyhow::Result<()> {
             Ok(())
         }
         Err(refusal) => {
-            rt.stdout().write_all(refusal.line().as_bytes())?;
+            println!(rt; "{refusal}")?;
             Err(anyhow!("refused"))
         }
     }

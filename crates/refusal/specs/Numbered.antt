@@ -50,5 +50,10 @@ place_of (ArcCount line) = line
 place_of ShortBuffer = 0
 place_of (BarredFeed feed) = feed
 
+-- `c refused NUMBER PLACE`
+abbrev pub refusal_words : Refusal → List ℕ
+refusal_words r = codes "c refused " ++ (decimal (number_of r) ++ (codes " " ++ decimal (place_of r)))
+
+-- the same, as a line
 abbrev pub refusal_text : Refusal → List ℕ
-refusal_text r = codes "c refused " ++ (decimal (number_of r) ++ (codes " " ++ (decimal (place_of r) ++ codes "\n")))
+refusal_text r = refusal_words r ++ codes "\n"

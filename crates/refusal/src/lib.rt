@@ -1,15 +1,17 @@
 #![tactic(auto)]
 
-ghost use Rattle.std.specs.Prelude.{◌≡◌};
+ghost use Rattle.std.specs.Prelude.{◌≡◌, Some};
 ghost use Rattle.std.specs.Option.{ok_or};
 ghost use Rattle.lines.specs.Buffers.{filled, fitted};
-ghost use Rattle.refusal.specs.Numbered.{number_of, place_of, refusal_text};
+ghost use Rattle.refusal.specs.Numbered.{number_of, place_of, refusal_text, refusal_words};
 ghost use Rattle.refusal.specs.declared.Refusal.TheVariants.{ShortBuffer};
 
 use lines::line::Line;
+use std::error::Error;
+use std::fmt;
 
 // Why a call was refused. In a text `line` is the line at fault, counted from 1; elsewhere it is 0.
-#[derive(Clone, Copy)]
+#[derive(Clone, Copy, Debug, PartialEq, Eq)]
 pub enum Refusal {
     // Fewer than 2 steps, or more than 1,024.
     StepCount { line: usize },
@@ -135,3 +137,16 @@ impl Refusal {
         self.line().copy_to(buffer).ok_or(Refusal::ShortBuffer)
     }
 }
+
+// `c refused NUMBER PLACE`, without a line feed.
+impl fmt::Display for Refusal {
+    ghost output = { λ refusal. Some (refusal_words refusal) };
+
+    fn fmt<W: fmt::Write>(&self, f: &mut fmt::Formatter<W>) -> fmt::Result {
+        let number = self.number();
+        let place = self.place();
+        write!(f, "c refused {number} {place}")
+    }
+}
+
+impl Error for Refusal {}

@@ -21,6 +21,6 @@ fn short_buffer(rt: HostRuntime) {
     assert!(rt; Refusal::NoBorder.write_line(&mut buffer).is_ok());
     assert!(rt; buffer == *b"c refused 21 0\n\x07");
     let mut short = [7u8; 14];
-    assert!(rt; Refusal::NoBorder.write_line(&mut short).is_err());
+    assert!(rt; Refusal::NoBorder.write_line(&mut short) == Err(Refusal::ShortBuffer));
     assert!(rt; short == [7u8; 14]);
 }

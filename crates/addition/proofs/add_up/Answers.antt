@@ -1,14 +1,8 @@
 use Rattle.std.proofs.Common.{◌≡◌, arith, inl, inr}
 use Rattle.std.proofs.lemmas.Result.{err_from_is_err_and}
-use Rattle.lines.specs.Split.{lines_of}
 use Rattle.refusal.specs.declared.Refusal.TheVariants.{NotAPrice}
-use Rattle.addition.proofs.Progress.{finished, no_place, no_price, one_more, started}
+use Rattle.addition.proofs.Progress.{finished, no_price, one_more}
 use Rattle.addition.proofs.add_up.Goals as goal
-
-pub loop-line-init : goal.loop-line-init
-loop-line-init g c =
-    let zip = c.zip-line-items.ensures in
-    rw (c.into_iter-line-iterator.ensures.into_iter_gives, zip.first, zip.second, c.of.ensures) (started g.W.Price.kind (lines_of c.args.text.now) c.zero-total.result c.zero-total.ensures.means)
 
 pub returns-in_err-price : goal.returns-in_err-price
 returns-in_err-price g c =
@@ -18,12 +12,6 @@ returns-in_err-price g c =
     let refused = no_price g.W.Price.kind c.loop-line.invariant steps.0 bad in
     let cause : c.in_err-price.field-0.0 ≡ NotAPrice c.in-Some.number = grind arith in
     rw (p.1, p.2, cause, steps.1.0) refused
-
-pub returns-then-number-gt-MOST_LINES : goal.returns-then-number-gt-MOST_LINES
-returns-then-number-gt-MOST_LINES g c =
-    let writes = rw c.in_ok-price.ensures.ok_part at c.price_on.ensures in
-    let steps = c.in-Some.ensures.steps in
-    rw steps.1.0 (no_place g.W.Price.kind c.loop-line.invariant steps.0 writes (omega arith))
 
 pub loop-line-preserved : goal.loop-line-preserved
 loop-line-preserved g c =
