@@ -1,4 +1,5 @@
-ghost use Rattle.std.specs.Prelude.{◌≡◌, ◌^◌, ◌<◌, true, pos, ◌<ℤ◌};
+ghost use Rattle.std.specs.Prelude.{◌≡◌, ◌^◌, ◌<◌, ◌≤◌, true, pos, ◌<ℤ◌};
+ghost use Rattle.std.specs.Option.{MatchOption};
 ghost use Rattle.std.specs.Cmp.Rules.{comparing};
 ghost use Rattle.std.specs.Ordering.{as_partial_cmp, int_cmp, int_eq, on};
 ghost use Rattle.price.specs.Kind.{Between, Same, nearest, reach_of};
@@ -40,6 +41,16 @@ const BOTTOM: Parts = Parts {
 };
 
 impl Parts {
+    fn new(rank: i32, size: u64) -> Option<Parts>
+        ensures { MatchOption result (2 ^ 44 ≤ size) (λ parts. (parts.rank ≡ rank) × (parts.size ≡ size)) }
+    {
+        if size < SIZES {
+            Some(Parts { rank, size })
+        } else {
+            None
+        }
+    }
+
     // The parts of a number whose size may be too large for its rank: what is more is carried into the rank.
     fn carried(rank: i32, size: u64) -> Parts
         requires { (rank <ℤ pos (2 ^ 30)) × (size < 2 ^ 45) }
@@ -62,12 +73,9 @@ impl Ranked {
         ensures means { as_one result.rank result.size ≡ ranked_means self }
         ensures within { Between (reach_of ranked_largest) (as_one result.rank result.size) }
     {
-        let Ranked { rank, size } = self;
-        if size < SIZES && (BOTTOM..=TOP).contains(&Parts { rank, size }) {
-            Parts { rank, size }
-        } else {
-            TOP
-        }
+        Parts::new(self.rank, self.size)
+            .filter(|number| (BOTTOM..=TOP).contains(number))
+            .unwrap_or(TOP)
     }
 
     // The total within the reach that is nearest to a number.
