@@ -1,5 +1,5 @@
 ghost use Rattle.std.specs.Prelude.{◌≡◌, true, pos, ◌+ℤ◌, ◌-ℤ◌, ◌<ℤ◌, Decides};
-ghost use Rattle.std.specs.Ordering.{int_cmp, on};
+ghost use Rattle.std.specs.Ordering.{int_cmp};
 ghost use Rattle.price.specs.Kind.{Between, PriceKind, Same, Sound, flow_limit, nearest, reach};
 
 // A kind of prices (capacities). Each of its totals means one whole number within the kind's reach,
@@ -56,11 +56,13 @@ pub fn is_negative<P: Price>(total: P) -> bool
 }
 
 // 4,096 times the largest price, by doubling.
+#[tactic(auto, using(crate::proofs::Limits::doubled))]
 pub fn flow_limit<P: Price>() -> P
     ensures means { P.kind.means result ≡ pos (flow_limit P.kind) }
     ensures named { P.kind.named result ≡ true }
 {
     let mut total = P::largest();
+    // a loop and no fold, which is no plainer: its proof has to list the turns
     for _i in 0..12u8 {
         total = total.plus(total);
     }
