@@ -1,22 +1,17 @@
 -- Ranks decide before sizes.
-use Rattle.std.proofs.Common.{◌≡◌, ℕ, ◌*◌, ◌^◌, ◌<◌, ◌≤◌, true, List, [], ◌∷◌, length, ℤ, ◌<ℤ◌, Ordering, Less, Equal, Greater, arith}
+use Rattle.std.proofs.Common.{◌≡◌, ℕ, ◌*◌, ◌^◌, ◌<◌, ◌≤◌, true, List, [], ◌∷◌, length, ℤ, arith}
 use Rattle.std.specs.List.{AllByRecursion}
 use Rattle.std.proofs.lemmas.List.Sums.{sum_by-cons}
 use Rattle.std.proofs.lemmas.Bool.Decides.{nat_tests}
-use Rattle.std.specs.Ordering.{MatchOrdering, ordering_then}
+use Rattle.std.specs.Ordering.{ordering_then, int_cmp, nat_cmp}
 use Rattle.std.proofs.lemmas.Int.{ints}
 use Rattle.kinds.specs.RankedKind.{RanksFirst, as_one, ranked_kind, ranked_means, ranked_price, ranks, sizes}
 use Rattle.price.specs.Sums.{sum_of}
 use Rattle.kinds.specs.declared.ranked.Ranked.{Ranked}
 
-pub compared : (a b : ℤ) (m n : ℕ) (x y : ℤ) (o p : Ordering) → m < 2 ^ 44 → n < 2 ^ 44 → as_one a m ≡ x → as_one b n ≡ y
-    → MatchOrdering o (a <ℤ b) (a ≡ b) (b <ℤ a) → MatchOrdering p (m < n) (m ≡ n) (n < m)
-    → MatchOrdering (ordering_then o p) (x <ℤ y) (x ≡ y) (y <ℤ x)
-compared a b m n x y Less p u v e f h k = omega (arith, ints)
-compared a b m n x y Greater p u v e f h k = omega (arith, ints)
-compared a b m n x y Equal Less u v e f h k = omega (arith, ints)
-compared a b m n x y Equal Equal u v e f h k = omega (arith, ints)
-compared a b m n x y Equal Greater u v e f h k = omega (arith, ints)
+-- ranks first, and then sizes, is the order of the numbers
+pub compared : (a b : ℤ) (m n : ℕ) (x y : ℤ) → m < 2 ^ 44 → n < 2 ^ 44 → as_one a m ≡ x → as_one b n ≡ y → ordering_then (int_cmp a b) (nat_cmp m n) ≡ int_cmp x y
+compared a b m n x y u v e f = grind (arith, ints, nat_tests)
 
 price_means : (t : Ranked) → ranked_price t ≡ true → (ranked_means t ≡ as_one t.rank t.size) × (t.size ≤ 4294967295)
 price_means t e = grind (arith, ints, nat_tests)

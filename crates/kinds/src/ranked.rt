@@ -1,4 +1,7 @@
-ghost use Rattle.std.specs.Prelude.{◌≡◌, ◌^◌, ◌<◌, true, pos, ◌<ℤ◌};
+ghost use Rattle.std.specs.Prelude.{◌≡◌, ◌^◌, ◌<◌, ◌≤◌, true, pos, ◌<ℤ◌};
+ghost use Rattle.std.specs.Option.{MatchOption};
+ghost use Rattle.std.specs.Cmp.Rules.{comparing};
+ghost use Rattle.std.specs.Ordering.{as_partial_cmp, int_cmp, int_eq, on};
 ghost use Rattle.price.specs.Kind.{Between, Same, nearest, reach_of};
 ghost use Rattle.kinds.specs.RankedKind.{RanksFirst, as_one, ranked_kind, ranked_largest, ranked_means, ranked_named, ranked_of_whole};
 ghost use Rattle.price.specs.WrittenKind.{PriceOf};
@@ -9,7 +12,7 @@ use price::written::Written;
 use std::cmp::Ordering;
 
 // A rank (how hard a picture is to open), and a number of MiB that counts where ranks are equal.
-#[derive(Clone, Copy)]
+#[derive(Clone, Copy, Debug)]
 pub struct Ranked {
     pub rank: i32,
     pub size: u64,
@@ -18,72 +21,119 @@ pub struct Ranked {
 // Sizes lie below this.
 const SIZES: u64 = 17_592_186_044_416;
 
+// A number as its rank and a size below 2^44. Ranks decide before sizes.
+#[derive(Clone, Copy, PartialEq, Eq, PartialOrd, Ord)]
+struct Parts {
+    rank: i32,
+    size: u64,
+    ghost below: { size < 2 ^ 44 },
+}
+
 // The ends of the reach.
-const TOP: Ranked = Ranked {
+const TOP: Parts = Parts {
     rank: 251_662_335,
     size: 17_592_169_267_200,
 };
 
-const BOTTOM: Ranked = Ranked {
+const BOTTOM: Parts = Parts {
     rank: -251_662_336,
     size: 16_777_216,
 };
 
-// The same number with its size below 2^44: what is more is carried into the rank.
-fn carried(rank: i32, size: u64) -> Ranked
-    requires { (rank <ℤ pos (2 ^ 30)) × (size < 2 ^ 45) }
-    ensures means { as_one result.rank result.size ≡ as_one rank size }
-    ensures size { result.size < 2 ^ 44 }
-{
-    if size < SIZES {
-        Ranked { rank, size }
-    } else {
-        Ranked {
-            rank: rank + 1,
-            size: size - SIZES,
+impl Parts {
+    fn new(rank: i32, size: u64) -> Option<Parts>
+        ensures { MatchOption result (2 ^ 44 ≤ size) (λ parts. (parts.rank ≡ rank) × (parts.size ≡ size)) }
+    {
+        if size < SIZES {
+            Some(Parts { rank, size })
+        } else {
+            None
+        }
+    }
+
+    // The parts of a number whose size may be too large for its rank: what is more is carried into the rank.
+    fn carried(rank: i32, size: u64) -> Parts
+        requires { (rank <ℤ pos (2 ^ 30)) × (size < 2 ^ 45) }
+        ensures { as_one result.rank result.size ≡ as_one rank size }
+    {
+        if size < SIZES {
+            Parts { rank, size }
+        } else {
+            Parts {
+                rank: rank + 1,
+                size: size - SIZES,
+            }
         }
     }
 }
 
-// The total within the reach that is nearest to t.
-fn held(t: Ranked) -> Ranked
-    requires { t.size < 2 ^ 44 }
-    ensures means { ranked_means result ≡ nearest (reach_of ranked_largest) (as_one t.rank t.size) }
-    ensures named { ranked_named result ≡ true }
-{
-    if t.rank > TOP.rank || t.rank == TOP.rank && t.size > TOP.size {
-        TOP
-    } else if t.rank < BOTTOM.rank || t.rank == BOTTOM.rank && t.size < BOTTOM.size {
-        BOTTOM
-    } else {
-        t
+impl Ranked {
+    // The parts of the number that a total is read as.
+    fn read(self) -> Parts
+        ensures means { as_one result.rank result.size ≡ ranked_means self }
+        ensures within { Between (reach_of ranked_largest) (as_one result.rank result.size) }
+    {
+        Parts::new(self.rank, self.size)
+            .filter(|number| (BOTTOM..=TOP).contains(number))
+            .unwrap_or(TOP)
+    }
+
+    // The total within the reach that is nearest to a number.
+    fn held(number: Parts) -> Ranked
+        ensures means { ranked_means result ≡ nearest (reach_of ranked_largest) (as_one number.rank number.size) }
+        ensures named { ranked_named result ≡ true }
+    {
+        let Parts { rank, size } = number.clamp(BOTTOM, TOP);
+        Ranked { rank, size }
     }
 }
 
-// Whether a total is one that the kind names.
-fn is_named(t: Ranked) -> bool
-    ensures { result ≡ ranked_named t }
-{
-    t.size < SIZES
-        && t.rank >= BOTTOM.rank
-        && t.rank <= TOP.rank
-        && (t.rank != BOTTOM.rank || t.size >= BOTTOM.size)
-        && (t.rank != TOP.rank || t.size <= TOP.size)
+// Totals compare by the numbers that they are read as.
+impl Ord for Ranked {
+    ghost cmp = { on ranked_means int_cmp };
+
+    ghost total = { Prim.search (comparing, rules) };
+
+    ghost matches_partial_cmp = { Prim.search (comparing, rules) };
+
+    ghost matches_eq = { Prim.search (comparing, rules) };
+
+    #[tactic(auto, using(crate::proofs::Ranks::compared))]
+    fn cmp(&self, other: &Ranked) -> Ordering {
+        self.read().cmp(&other.read())
+    }
 }
 
-// The rank and the size that a total is read as.
-fn read(t: Ranked) -> Ranked
-    ensures means { as_one result.rank result.size ≡ ranked_means t }
-    ensures size { result.size < 2 ^ 44 }
-    ensures within { Between (reach_of ranked_largest) (as_one result.rank result.size) }
-{
-    if is_named(t) { t } else { TOP }
+impl PartialOrd for Ranked {
+    ghost partial_cmp = { as_partial_cmp (on ranked_means int_cmp) };
+
+    ghost laws = { Prim.search (comparing, rules) };
+
+    fn partial_cmp(&self, other: &Ranked) -> Option<Ordering> {
+        Some(self.cmp(other))
+    }
+}
+
+impl Eq for Ranked {
+    ghost laws = { Prim.search (comparing, rules) };
+}
+
+impl PartialEq for Ranked {
+    ghost eq = { on ranked_means int_eq };
+
+    ghost laws = { Prim.search (comparing, rules) };
+
+    fn eq(&self, other: &Ranked) -> bool {
+        self.cmp(other).is_eq()
+    }
 }
 
 impl Price for Ranked {
     ghost kind = { ranked_kind };
 
     ghost sound = { Prim.search rules };
+
+    ghost order = { Prim.search rules };
 
     fn zero() -> Ranked {
         Ranked { rank: 0, size: 0 }
@@ -97,26 +147,20 @@ impl Price for Ranked {
     }
 
     fn plus(self, other: Ranked) -> Ranked {
-        let a = read(self);
-        let b = read(other);
-        held(carried(a.rank + b.rank, a.size + b.size))
+        let a = self.read();
+        let b = other.read();
+        Ranked::held(Parts::carried(a.rank + b.rank, a.size + b.size))
     }
 
     fn minus(self, other: Ranked) -> Ranked {
-        let a = read(self);
-        let b = read(other);
+        let a = self.read();
+        let b = other.read();
         // one rank is borrowed, and carried back where it is not needed
-        held(carried(a.rank - b.rank - 1, a.size + SIZES - b.size))
-    }
-
-    fn compare(self, other: Ranked) -> Ordering {
-        let a = read(self);
-        let b = read(other);
-        a.rank.cmp(&b.rank).then(a.size.cmp(&b.size))
+        Ranked::held(Parts::carried(a.rank - b.rank - 1, a.size + SIZES - b.size))
     }
 
     fn is_price(self) -> bool {
-        0 <= self.rank && self.rank <= 15 && self.size <= 4_294_967_295
+        (0..=15).contains(&self.rank) && self.size <= 4_294_967_295
     }
 }
 
@@ -141,7 +185,7 @@ impl Written for Ranked {
         if !is_within_flow_limit(self) {
             return None;
         }
-        let t = read(self);
+        let t = self.read();
         Some(t.rank as i64 * SIZES as i64 + t.size as i64)
     }
 
@@ -154,6 +198,6 @@ impl Written for Ranked {
             rank: (n / SIZES) as i32,
             size: n % SIZES,
         };
-        if t.is_price() { Some(t) } else { None }
+        t.is_price().then_some(t)
     }
 }

@@ -1,7 +1,6 @@
 -- Sums of totals that are few and small stay within the reach.
-use Rattle.std.proofs.Common.{◌≡◌, ℕ, suc, ◌+◌, ◌*◌, ◌<◌, ◌≤◌, List, [], ◌∷◌, map, length, get_or, drop, ℤ, pos, ◌+ℤ◌, sym, ap, ◌∙◌, mul-le-mul_right, suc-mul, arith}
+use Rattle.std.proofs.Common.{◌≡◌, true, ℕ, suc, ◌+◌, ◌*◌, ◌≤◌, List, [], ◌∷◌, ◌++◌, map, length, ℤ, pos, ◌+ℤ◌, refl, ap, ◌∙◌, mul-le-mul_right, suc-mul, arith}
 use Rattle.std.specs.List.{AllByRecursion}
-use Rattle.std.proofs.lemmas.List.{at_drop_more}
 use Rattle.std.proofs.lemmas.Int.{ints, clamps}
 use Rattle.price.specs.Kind.{Between, PriceKind, flow_limit, nearest, reach}
 use Rattle.price.specs.Sums.{Modest, held_sum, sum_of}
@@ -32,10 +31,12 @@ module _ {P : Type 0} (K : PriceKind P) where
       let whole = held_exact (reach K) (flow_limit K) 0 (pos 0) xs (record { low = omega (arith, ints); high = omega (arith, ints) }) m.small (omega arith) in
       omega (arith, ints)
 
-  -- one total more of xs
-  pub held_more : (n : ℕ) (z w : ℤ) (xs : List P) (i : ℕ) (x : P) → i < length xs → x ≡ get_or xs i x → w ≡ nearest n (z +ℤ K.means x)
-      → held_sum n w (map K.means (drop (i + 1) xs)) ≡ held_sum n z (map K.means (drop i xs))
-  held_more n z w xs i x within read is =
-      let rest = map K.means (drop (i + 1) xs) in
-      let step = at_drop_more (λ ys. held_sum n z (map K.means ys)) xs i x within in
-      ap (λ y. held_sum n y rest) is ∙ ap (λ y. held_sum n (nearest n (z +ℤ K.means y)) rest) read ∙ sym step
+  -- what the sum of xs, added in turn, is known to be
+  pub record IsHeldSum (xs : List P) (sum : P) : Type 0 where
+    pub means : K.means sum ≡ held_sum (reach K) (pos 0) (map K.means xs)
+    pub named : K.named sum ≡ true
+
+  -- one total more at the end of xs
+  pub held_push : (n : ℕ) (z : ℤ) (xs : List P) (x : P) → held_sum n z (map K.means (xs ++ x ∷ [])) ≡ nearest n (held_sum n z (map K.means xs) +ℤ K.means x)
+  held_push n z [] x = refl
+  held_push n z (y ∷ ys) x = held_push n (nearest n (z +ℤ K.means y)) ys x

@@ -1,11 +1,10 @@
 ghost use Rattle.std.specs.Prelude.{◌≡◌, true, pos, ◌+ℤ◌, ◌-ℤ◌, ◌<ℤ◌, Decides};
-ghost use Rattle.std.specs.Ordering.{MatchOrdering};
+ghost use Rattle.std.specs.Ordering.{int_cmp};
 ghost use Rattle.price.specs.Kind.{Between, PriceKind, Same, Sound, flow_limit, nearest, reach};
 
-use std::cmp::Ordering;
-
-// A kind of prices (capacities). Each of its totals means one whole number within the kind's reach.
-pub trait Price: Copy {
+// A kind of prices (capacities). Each of its totals means one whole number within the kind's reach,
+// and totals compare as their meanings do.
+pub trait Price: Copy + Ord {
     // What the totals mean, the largest price, and which totals are named and which are prices.
     ghost kind: { PriceKind Self };
 
@@ -31,38 +30,39 @@ pub trait Price: Copy {
         ensures means { kind.means result ≡ nearest (reach kind) (kind.means self -ℤ kind.means other) }
         ensures named { kind.named result ≡ true };
 
-    // Less, equal or greater, as the meanings are.
-    fn compare(self, other: Self) -> Ordering
-        ensures { MatchOrdering result (kind.means self <ℤ kind.means other) (Same kind self other) (kind.means other <ℤ kind.means self) };
-
     // Whether a total is a price of the kind.
     fn is_price(self) -> bool
         ensures { result ≡ kind.price self };
 
     // Meanings lie within the reach, and those of prices between 0 and the largest.
     ghost sound: { Sound kind };
+
+    // Less, equal or greater, as the meanings are.
+    ghost order: { (x y : Self) → Self.Ord.cmp x y ≡ int_cmp (kind.means x) (kind.means y) };
 }
 
 // Whether two totals mean the same number.
 pub fn is_same<P: Price>(a: P, b: P) -> bool
     ensures { Decides result (Same P.kind a b) }
 {
-    a.compare(b).is_eq()
+    a == b
 }
 
 // Whether a total means a number below 0.
 pub fn is_negative<P: Price>(total: P) -> bool
     ensures { Decides result (P.kind.means total <ℤ pos 0) }
 {
-    total.compare(P::zero()).is_lt()
+    total < P::zero()
 }
 
 // 4,096 times the largest price, by doubling.
+#[tactic(auto, using(crate::proofs::Limits::doubled))]
 pub fn flow_limit<P: Price>() -> P
     ensures means { P.kind.means result ≡ pos (flow_limit P.kind) }
     ensures named { P.kind.named result ≡ true }
 {
     let mut total = P::largest();
+    // a loop and no fold, which is no plainer: its proof has to list the turns
     for _i in 0..12u8 {
         total = total.plus(total);
     }
@@ -74,5 +74,5 @@ pub fn is_within_flow_limit<P: Price>(total: P) -> bool
     ensures { Decides result (Between (flow_limit P.kind) (P.kind.means total)) }
 {
     let limit = flow_limit::<P>();
-    total.compare(limit).is_le() && P::zero().minus(total).compare(limit).is_le()
+    (P::zero().minus(limit)..=limit).contains(&total)
 }

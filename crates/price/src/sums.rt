@@ -10,9 +10,5 @@ pub fn sum_of<P: Price>(totals: &[P]) -> P
     ensures exact { Modest P.kind totals.now → P.kind.means result ≡ sum_of P.kind totals.now }
     ensures named { P.kind.named result ≡ true }
 {
-    let mut sum = P::zero();
-    for total in totals {
-        sum = sum.plus(*total);
-    }
-    sum
+    totals.iter().fold(P::zero(), |sum, total| sum.plus(*total))
 }

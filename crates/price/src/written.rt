@@ -8,6 +8,7 @@ use super::kind::Price;
 use lines::line::Line;
 
 // A kind whose prices are read and written as whole numbers of at most 15 digits.
+// Its two readings are no TryFrom: that would need an error type for a single cause, and laws in place of the clauses.
 pub trait Written: Price {
     // The whole number that a total within the flow limit means; none beyond the limit.
     fn whole(self) -> Option<i64>

@@ -35,12 +35,12 @@ fn ranked_totals(rt: HostRuntime) {
     assert!(rt; left.size == 17_592_186_044_411);
     assert!(rt; left.plus(five).rank == 1);
     assert!(rt; five.minus(rank).rank == -1);
-    assert!(rt; left.compare(rank).is_lt());
+    assert!(rt; left < rank);
     let unnamed = Ranked {
         rank: 0,
         size: 17_592_186_044_416,
     };
-    assert!(rt; unnamed.compare(flow_limit()).is_gt());
+    assert!(rt; unnamed > flow_limit());
     assert!(rt; flow_limit::<Ranked>().whole() == Some(1_080_881_502_754_959_360));
 }
 

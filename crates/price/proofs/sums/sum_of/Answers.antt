@@ -1,21 +1,13 @@
-use Rattle.std.proofs.Common.{◌≡◌, map, pos, sym, ◌∙◌}
-use Rattle.std.proofs.lemmas.List.{at_drop_all}
+use Rattle.std.proofs.Common.{pos, subst, ◌∙◌, rules}
+use Rattle.std.proofs.lemmas.Fn.{fold_over, fronts, slice_gives}
 use Rattle.price.specs.Kind.{reach}
-use Rattle.price.specs.Sums.{held_sum}
-use Rattle.price.proofs.Exact.{held_more, modest_exact}
+use Rattle.price.proofs.Exact.{IsHeldSum, held_push, modest_exact}
 use Rattle.price.proofs.sums.sum_of.Goals as goal
-
-pub loop-total-preserved : goal.loop-total-preserved
-loop-total-preserved g c =
-    let K = g.P.Price.kind in
-    let more = held_more K (reach K) (K.means c.loop-total.sum) (K.means c.plus-sum.result) c.args.totals.now c.loop-total.total-index c.total-item.result c.loop-total-test.true c.total-item.is c.plus-sum.ensures.means in
-    (more ∙ c.loop-total.invariant.0, c.plus-sum.ensures.named)
 
 pub returns : goal.returns
 returns g c =
     let K = g.P.Price.kind in
-    let totals = c.args.totals.now in
-    let sum = c.loop-total.sum in
-    let whole : K.means sum ≡ held_sum (reach K) (pos 0) (map K.means totals) =
-    sym (at_drop_all (λ xs. held_sum (reach K) (K.means sum) (map K.means xs)) totals c.loop-total.total-index c.loop-total-test.false) ∙ c.loop-total.invariant.0 in
-    record { means = whole; exact = λ m. whole ∙ modest_exact K totals m; named = c.loop-total.invariant.1 }
+    let step = held_push K (reach K) (pos 0) in
+    let sum = subst (λ xs. IsHeldSum K xs c.fold.result) c.iter.ensures.rest
+    (fold_over fronts (λ y. y.now) _ (IsHeldSum K) _ (λ ys a x b f' so call. let push = step ys x.now in search rules) _ _ _ _ (slice_gives c.iter.result) (search rules) c.fold.ensures.ran) in
+    record { means = sum.means; exact = λ m. sum.means ∙ modest_exact K c.args.totals.now m; named = sum.named }

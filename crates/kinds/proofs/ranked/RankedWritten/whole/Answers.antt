@@ -1,10 +1,8 @@
 use Rattle.std.proofs.Common.{arith}
 use Rattle.std.proofs.lemmas.Int.{ints}
-use Rattle.price.specs.Kind.{Between}
-use Rattle.kinds.specs.RankedKind.{ranked_means}
 use Rattle.kinds.proofs.ranked.RankedWritten.whole.Goals as goal
 
 pub returns : goal.returns
 returns c =
-    let within : Between 1080881502754959360 (ranked_means c.args.self) = c.is_within_flow_limit.ensures.0 c.if-not-is_within_flow_limit.false in
+    let within = c.is_within_flow_limit.ensures.0 c.if-not-is_within_flow_limit.false in
     (within, omega (arith, ints))
