@@ -18,6 +18,12 @@ pub struct Ranked {
     pub size: u64,
 }
 
+// The largest price.
+const LARGEST: Ranked = Ranked {
+    rank: 15,
+    size: 4_294_967_295,
+};
+
 // Sizes lie below this.
 const SIZES: u64 = 17_592_186_044_416;
 
@@ -140,10 +146,7 @@ impl Price for Ranked {
     }
 
     fn largest() -> Ranked {
-        Ranked {
-            rank: 15,
-            size: 4_294_967_295,
-        }
+        LARGEST
     }
 
     fn plus(self, other: Ranked) -> Ranked {
@@ -160,7 +163,7 @@ impl Price for Ranked {
     }
 
     fn is_price(self) -> bool {
-        (0..=15).contains(&self.rank) && self.size <= 4_294_967_295
+        (0..=LARGEST.rank).contains(&self.rank) && self.size <= LARGEST.size
     }
 }
 

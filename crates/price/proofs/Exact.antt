@@ -5,9 +5,6 @@ use Rattle.std.proofs.lemmas.Int.{ints, clamps}
 use Rattle.price.specs.Kind.{Between, PriceKind, flow_limit, nearest, reach}
 use Rattle.price.specs.Sums.{Modest, held_sum, sum_of}
 
-pub nearest_same : (n : ℕ) (z : ℤ) → Between n z → nearest n z ≡ z
-nearest_same n z b = omega (arith, ints, clamps)
-
 module _ {P : Type 0} (K : PriceKind P) where
   -- k totals of at most m each were added before, and no sum passes n
   held_exact : (n m k : ℕ) (z : ℤ) (xs : List P) → Between (k * m) z → AllByRecursion (λ x. Between m (K.means x)) xs → (k + length xs) * m ≤ n
@@ -17,11 +14,11 @@ module _ {P : Type 0} (K : PriceKind P) where
       let one = suc-mul k m in
       let first = h.0 in
       let count : k + suc (length xs) ≡ suc k + length xs = omega arith in
-      let fit : (suc k + length xs) * m ≤ n = rw count at few in
+      let fit = rw count at few in
       let most : suc k ≤ suc k + length xs = omega arith in
       let wide = mul-le-mul_right m most in
       let next : Between (suc k * m) (z +ℤ K.means x) = record { low = omega (arith, ints); high = omega (arith, ints) } in
-      let same = nearest_same n (z +ℤ K.means x) (record { low = omega (arith, ints); high = omega (arith, ints) }) in
+      let same : nearest n (z +ℤ K.means x) ≡ z +ℤ K.means x = omega (arith, ints, clamps) in
       let rest = held_exact n m (suc k) (z +ℤ K.means x) xs next h.1 fit in
       ap (λ y. held_sum n y (map K.means xs)) same ∙ rest ∙ omega (arith, ints)
 
