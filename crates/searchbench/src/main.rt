@@ -78,7 +78,9 @@ fn put(feeds: &mut Vec<Feed<Size>>, from: u16, to: u16) -> anyhow::Result<()> {
 // How many steps open moves reach from the source, where none leads to the sink.
 fn reached(chart: Chart<Size>) -> usize {
     match chart.open_way(&[]) {
-        Err(NoRoad::Missing(reach)) => (1..1_025).filter(|step| reach.reaches(*step)).count(),
+        Err(NoRoad::Missing(reach)) => (1..=chart.steps)
+            .filter(|step| reach.reaches(*step))
+            .count(),
         _ => 0,
     }
 }
