@@ -1,5 +1,5 @@
 -- The map of feeds forward does not depend on bars, source, sink or the number of steps.
-use Rattle.std.proofs.Common.{◌≡◌, ℕ, ltb, List, [], length, Option, sym, refl, ap, subst, ◌∙◌}
+use Rattle.std.proofs.Common.{◌≡◌, ℕ, ltb, List, [], length, Option, sym, ap, subst, ◌∙◌}
 use mathlib.Core.Path.{fun_ext}
 use Rattle.price.specs.Kind.{PriceKind}
 use Rattle.network.specs.Walk.{Map}
@@ -8,7 +8,7 @@ use Rattle.search.specs.Answers.{Explores}
 use Rattle.search.specs.declared.reach.Reach.{Reach}
 use Rattle.sheets.specs.Sheets.{chart_of, feeds_chart}
 use Rattle.sheets.specs.declared.Feed.{Feed}
-use Rattle.sheets.proofs.Entries.{count_is, field_same}
+use Rattle.sheets.proofs.Entries.{count_is, from_same, to_same}
 
 with_parts : (ℕ → ℕ) → (ℕ → ℕ) → ℕ → Map ℕ
 with_parts from to count = record { from = from; to = to; passable = λ k. ltb k count }
@@ -19,8 +19,8 @@ module _ {P : Type 0} (K : PriceKind P) (n s t : ℕ) (feeds : List (Feed P)) (b
   forward_same =
       let C = feeds_chart K feeds [] in
       let D = chart_of K n s t feeds bars in
-      ap (λ x. with_parts x C.to C.count) (fun_ext (λ k. field_same K (λ y. y.from) (λ y. y.from) (λ x b. refl) feeds [] bars k))
-      ∙ ap (λ x. with_parts D.from x C.count) (fun_ext (λ k. field_same K (λ y. y.to) (λ y. y.to) (λ x b. refl) feeds [] bars k))
+      ap (λ x. with_parts x C.to C.count) (fun_ext (from_same K feeds [] bars))
+      ∙ ap (λ x. with_parts D.from x C.count) (fun_ext (to_same K feeds [] bars))
       ∙ ap (with_parts D.from D.to) (count_is K feeds [] ∙ sym (count_is K feeds bars))
 
   -- and so neither does a search on it, whichever way its arcs are turned

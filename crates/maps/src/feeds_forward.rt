@@ -31,6 +31,7 @@ impl<P: Price> Map for FeedsForward<'_, P> {
         )
     }
 
+    #[tactic(auto, using(sheets::proofs::Entries::count_is))]
     fn is_passable(&self, k: usize) -> bool {
         k < self.feeds.len()
     }

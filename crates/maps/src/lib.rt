@@ -24,7 +24,8 @@ pub mod moves;
 pub mod reversed;
 pub mod rules;
 
-// A chart as sheets hold it: steps 1 to `steps`, two of them source and sink, the feeds, and a bar byte for each.
+// A chart as sheets hold it: steps 1 to `steps`, two of them source and sink, the feeds, and a bar byte for each. Feeds and
+// bars are two slices, as callers keep them: a sheet of bars may be lent alone, and may be shorter.
 #[derive(Clone, Copy)]
 pub struct Chart<'a, P> {
     pub steps: usize,

@@ -25,7 +25,7 @@ fn is_backward(j: usize) -> bool
     j % 2 == 1
 }
 
-// Whether the feed at place k is barred; not where the sheet of bars has no such place.
+// Whether the feed at place k is barred, which the byte 1 alone says; not where the sheet of bars has no such place.
 fn is_barred(bars: &[u8], k: usize) -> bool
     ensures { result ≡ (slice_index bars.now k == 1) }
 {
@@ -52,6 +52,7 @@ impl<P: Price, R: Rule<P>> Map for Moves<'_, P, R> {
 
     fn is_passable(&self, j: usize) -> bool {
         let k = j / 2;
+        // no `is_some_and`: of a closure that calls a bound's method nothing is known, so its proof did not close
         let Some(feed) = self.feeds.get(k) else {
             return false;
         };

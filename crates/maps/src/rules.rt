@@ -8,6 +8,7 @@ pub trait Rule<P: Price> {
     // Whether one may pass a feed, by its place, its bar and what its price means.
     ghost may: { Self → ℕ → Bool → ℤ → Bool };
 
+    // Whether one may pass the feed at place k, by its bar and its price.
     fn may_pass(&self, k: usize, barred: bool, price: P) -> bool
         ensures { result ≡ may self.now k barred (P.kind.means price) };
 }

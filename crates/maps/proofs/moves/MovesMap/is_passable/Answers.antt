@@ -1,7 +1,7 @@
 use Rattle.std.proofs.Common.{ℕ, ◌/◌, Some, refl, sym}
 use Rattle.std.proofs.lemmas.Bool.{ltb-true}
 use Rattle.sheets.specs.Sheets.{feeds_chart}
-use Rattle.sheets.proofs.Entries.{count_is, field_lent, barred_is}
+use Rattle.sheets.proofs.Entries.{count_is, price_lent, barred_is}
 use Rattle.maps.proofs.Numbering.{passable_is}
 use Rattle.maps.proofs.moves.MovesMap.is_passable.Goals as goal
 
@@ -18,8 +18,7 @@ returns-else-is_backward g c =
     let m = c.args.self.now in
     let C = feeds_chart K m.feeds.now m.bars.now in
     let k = c.args.j / 2 in
-    let feed = c.in-Some.feed in
     let lookup = c.in-Some.ensures.lookup in
-    let price = field_lent K (λ x. x.price) (λ x. K.means x.price) (λ x b. refl) m.feeds.now m.bars.now k (Some feed) lookup (K.means feed.now.price) refl in
+    let price = price_lent K m.feeds.now m.bars.now k (Some c.in-Some.feed) lookup (K.means c.in-Some.feed.now.price) refl in
     let bar = barred_is K m.feeds.now m.bars.now k (ltb-true _ _ (sym lookup.0)) in
     rw (passable_is C (λ (i : ℕ). g.R.Rule.may m.rule i (C.barred i) (C.price i)) c.args.j, ← c.is_backward.ensures, c.if-is_backward.false, ← price, bar, ← c.is_barred.ensures, count_is K m.feeds.now m.bars.now, ← lookup.0) c.may_pass.ensures
