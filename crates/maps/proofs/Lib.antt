@@ -1,4 +1,3 @@
 pub mod Numbering
-pub mod Comparing
 pub mod Ways
 pub mod Bars

@@ -1,5 +1,5 @@
 -- What the searches on a chart answer: on any chart, by the rule of the search; on a fit one, in the chart's own words.
-use Rattle.std.specs.Prelude.{◌≡◌, ℕ, ◌*◌, ◌≤◌, true, ◌↔◌, map, Some, None, Option}
+use Rattle.std.specs.Prelude.{◌≡◌, ℕ, ◌*◌, ◌≤◌, true, ◌↔◌, map, Some, None, Option, Ok, Err, Result}
 use Rattle.network.specs.Chart.{Chart, Fit, Flows}
 use Rattle.network.specs.Walk.{Map, Walk, Leads, reversed}
 use Rattle.network.specs.Border.{feeds_forward}
@@ -9,9 +9,10 @@ use Rattle.network.specs.Raise.{OpenWay, Shortest}
 use Rattle.network.specs.Arc.{move_of}
 use Rattle.search.specs.Answers.{Answers, Explores}
 use Rattle.search.specs.Record.{reached, arcs_of}
-use Rattle.search.specs.declared.Answer.{Answer}
-use Rattle.search.specs.declared.Answer.TheVariants.{OutOfRange, Found, Missing}
+use Rattle.search.specs.declared.NoRoad.{NoRoad}
+use Rattle.search.specs.declared.NoRoad.TheVariants.{OutOfRange, Missing}
 use Rattle.search.specs.declared.reach.Reach.{Reach}
+use Rattle.search.specs.declared.road.Road.{Road}
 use Rattle.maps.specs.Graphs.{unlimited_arcs, open_arcs}
 
 -- at most 1,024 steps and 4,096 feeds
@@ -20,16 +21,16 @@ pub record WithinLimits (C : Chart) : Type 0 where
   pub few_feeds : C.count ≤ 4096
 
 -- an open way with the fewest moves; or the steps that are reached are the early side of the border that closes
-abbrev pub OpenWayAnswer : Chart → Flows → Answer → Type 0
-OpenWayAnswer C f OutOfRange = WithinLimits C → ⊥
-OpenWayAnswer C f (Found r) = OpenWay C f (map move_of (arcs_of r)) × Shortest C f (map move_of (arcs_of r))
-OpenWayAnswer C f (Missing r) = Closed C f (reached r)
+abbrev pub OpenWayAnswer : Chart → Flows → Result Road NoRoad → Type 0
+OpenWayAnswer C f (Ok r) = OpenWay C f (map move_of (arcs_of r)) × Shortest C f (map move_of (arcs_of r))
+OpenWayAnswer C f (Err OutOfRange) = WithinLimits C → ⊥
+OpenWayAnswer C f (Err (Missing r)) = Closed C f (reached r)
 
 -- moves without limit that lead from source to sink; or there are none
-abbrev pub UnlimitedWayAnswer : Chart → Answer → Type 0
-UnlimitedWayAnswer C OutOfRange = WithinLimits C → ⊥
-UnlimitedWayAnswer C (Found r) = Walk (unlimited_moves C) C.source (map move_of (arcs_of r)) C.sink
-UnlimitedWayAnswer C (Missing r) = UnlimitedWay C → ⊥
+abbrev pub UnlimitedWayAnswer : Chart → Result Road NoRoad → Type 0
+UnlimitedWayAnswer C (Ok r) = Walk (unlimited_moves C) C.source (map move_of (arcs_of r)) C.sink
+UnlimitedWayAnswer C (Err OutOfRange) = WithinLimits C → ⊥
+UnlimitedWayAnswer C (Err (Missing r)) = UnlimitedWay C → ⊥
 
 -- exactly the steps to which the map M of the chart leads from step a
 abbrev pub ReachAnswer : Chart → Map ℕ → ℕ → Option Reach → Type 0
@@ -38,11 +39,11 @@ ReachAnswer C M a (Some r) = (v : ℕ) → (reached r v ≡ true) ↔ Leads M a 
 
 -- Each search: what it answers on every chart, and on a fit one
 
-pub record SearchOpenWay (C : Chart) (f : Flows) (r : Answer) : Type 0 where
+pub record SearchOpenWay (C : Chart) (f : Flows) (r : Result Road NoRoad) : Type 0 where
   pub answer : Answers (2 * C.count) (open_arcs C f) C.steps C.source C.sink r
   pub fit : Fit C → OpenWayAnswer C f r
 
-pub record SearchUnlimitedWay (C : Chart) (r : Answer) : Type 0 where
+pub record SearchUnlimitedWay (C : Chart) (r : Result Road NoRoad) : Type 0 where
   pub answer : Answers (2 * C.count) (unlimited_arcs C) C.steps C.source C.sink r
   pub fit : Fit C → UnlimitedWayAnswer C r
 

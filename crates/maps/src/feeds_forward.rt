@@ -2,12 +2,11 @@ ghost use Rattle.std.specs.Prelude.{[], length};
 ghost use Rattle.network.specs.Border.{feeds_forward};
 ghost use Rattle.sheets.specs.Sheets.{feeds_chart};
 
-use super::arcs::feed_ends;
 use price::kind::Price;
 use search::map::{Ends, Map};
 use sheets::Feed;
 
-// Feeds, each passed from its start to its end. Arc k is the feed at place k of the sheet.
+// Feeds, each passed from its start to its end. Arc k is the feed at place k of the sheet; beyond the last, both ends are 0.
 #[derive(Drop)]
 pub struct FeedsForward<'a, P> {
     pub feeds: &'a [Feed<P>],
@@ -23,9 +22,16 @@ impl<P: Price> Map for FeedsForward<'_, P> {
     }
 
     fn ends(&self, k: usize) -> Ends {
-        feed_ends(self.feeds, k)
+        self.feeds.get(k).map_or(
+            Ends { from: 0, to: 0 },
+            |feed| Ends {
+                from: usize::from(feed.from),
+                to: usize::from(feed.to),
+            },
+        )
     }
 
+    #[tactic(auto, using(sheets::proofs::Entries::count_is))]
     fn is_passable(&self, k: usize) -> bool {
         k < self.feeds.len()
     }

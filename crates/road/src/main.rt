@@ -3,31 +3,31 @@
 #![tactic(auto)]
 
 use kinds::size::Size;
-use maps::open_way;
-use search::Answer;
+use maps::Chart;
+use search::NoRoad;
 use sheets::Feed;
 
 const STEPS: usize = 4;
+
+fn size(mib: i64) -> Size {
+    Size { mib }
+}
 
 fn feed(from: u16, to: u16, mib: i64) -> Feed<Size> {
     Feed {
         from,
         to,
-        price: Size { mib },
+        price: size(mib),
     }
 }
 
-fn flow(mib: i64) -> Size {
-    Size { mib }
-}
-
-fn show(rt: &HostRuntime, feeds: &[Feed<Size>], flows: &[Size]) -> anyhow::Result<()> {
+fn show(rt: &HostRuntime, chart: Chart<Size>, flows: &[Size]) -> anyhow::Result<()> {
     print!(rt; "flows")?;
     for total in flows {
         print!(rt; " {}", total.mib)?;
     }
-    match open_way(STEPS, 1, STEPS, feeds, &[], flows) {
-        Answer::Found(road) => {
+    match chart.open_way(flows) {
+        Ok(road) => {
             print!(rt; ": way")?;
             for arc in road.arcs() {
                 let sign = if *arc % 2 == 0 { "+" } else { "-" };
@@ -35,15 +35,13 @@ fn show(rt: &HostRuntime, feeds: &[Feed<Size>], flows: &[Size]) -> anyhow::Resul
                 print!(rt; " {sign}{number}")?;
             }
         }
-        Answer::Missing(reach) => {
+        Err(NoRoad::Missing(reach)) => {
             print!(rt; ": reached")?;
-            for step in 1..STEPS + 1 {
-                if reach.reaches(step) {
-                    print!(rt; " {step}")?;
-                }
+            for step in (1..=STEPS).filter(|step| reach.reaches(*step)) {
+                print!(rt; " {step}")?;
             }
         }
-        Answer::OutOfRange => print!(rt; ": out of range")?,
+        Err(NoRoad::OutOfRange) => print!(rt; ": out of range")?,
     }
     println!(rt; "")?;
     Ok(())
@@ -57,8 +55,15 @@ fn main(rt: HostRuntime) -> anyhow::Result<()> {
         feed(2, 4, 5),
         feed(3, 4, 2),
     ];
-    show(&rt, &feeds, &[flow(0), flow(0), flow(0), flow(0), flow(0)])?;
-    show(&rt, &feeds, &[flow(2), flow(2), flow(0), flow(2), flow(2)])?;
-    show(&rt, &feeds, &[flow(2), flow(5), flow(-3), flow(5), flow(2)])?;
+    let chart = Chart {
+        steps: STEPS,
+        source: 1,
+        sink: STEPS,
+        feeds: &feeds,
+        bars: &[],
+    };
+    for flows in [[0, 0, 0, 0, 0], [2, 2, 0, 2, 2], [2, 5, -3, 5, 2]] {
+        show(&rt, chart, &flows.map(size))?;
+    }
     Ok(())
 }

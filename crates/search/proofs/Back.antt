@@ -1,19 +1,24 @@
 -- A road read back from the goal, one arc after the other.
-use Rattle.std.proofs.Common.{◌≡◌, ℕ, ◌+◌, ◌-◌, ◌<◌, ◌≤◌, true, List, [], ◌∷◌, length, drop, set, sym, refl, ap, ◌∙◌, subst, inl, inr, arith}
+use Rattle.std.proofs.Common.{◌≡◌, ℕ, ◌+◌, ◌-◌, ◌<◌, ◌≤◌, true, Option, Some, None, is_some, List, [], ◌∷◌, length, drop, set, sym, refl, ap, ◌∙◌, subst, inl, inr, arith}
 use Rattle.std.proofs.lemmas.List.{length-drop, drop-set}
 use Rattle.std.proofs.lemmas.Bool.{true≢false}
 use Rattle.network.specs.Walk.{Map, Walk, met, In, Distinct}
-use Rattle.search.specs.Record.{parent_of, is_reached}
+use Rattle.search.specs.Record.{parent_of, arc_of}
 use Rattle.search.specs.Answers.{ShortestRoad}
 use Rattle.search.specs.Progress.{Known, Says, LeadsBack}
 use Rattle.search.specs.Reading.{Reading}
 use Rattle.search.specs.declared.reach.Parent.{Parent}
-use Rattle.search.specs.declared.reach.Parent.TheVariants.{Unreached, Start, Along}
+use Rattle.search.specs.declared.reach.Parent.TheVariants.{Start, Along}
 
-pub is_start : (p : Parent) → is_reached p ≡ true → ((k : ℕ) → p ≡ Along k → ⊥) → p ≡ Start
-is_start Unreached k none = absurd (true≢false (sym k))
-is_start Start k none = refl
-is_start (Along j) k none = absurd (none j refl)
+pub is_start : (p : Option Parent) → is_some p ≡ true → arc_of p ≡ None → p ≡ Some Start
+is_start None k none = absurd (true≢false (sym k))
+is_start (Some Start) k none = refl
+is_start (Some (Along j)) k none = cc
+
+pub is_along : (p : Option Parent) (k : ℕ) → arc_of p ≡ Some k → p ≡ Some (Along k)
+is_along None k e = cc
+is_along (Some Start) k e = cc
+is_along (Some (Along j)) k e = cc
 
 -- a table of 1,024 entries, of which the last ones are written, has a place left before them
 pub place_left : (table : List ℕ) (p : ℕ) → length table ≡ 1024 → length (drop p table) < 1024 → 1 ≤ p
@@ -25,7 +30,7 @@ written table p k high l low =
     let e : p - 1 + 1 ≡ p = omega arith in
     drop-set table (p - 1) k (omega arith) ∙ ap (λ j. k ∷ drop j table) e
 
-module _ (M : Map ℕ) (s : ℕ) (parents : List Parent) (S : LeadsBack M s parents) (g : ℕ) where
+module _ (M : Map ℕ) (s : ℕ) (parents : List (Option Parent)) (S : LeadsBack M s parents) (g : ℕ) where
   -- no arc is read yet
   pub at_goal : Known parents g → Reading M parents S.distance g g []
   at_goal kg = record {
@@ -45,8 +50,8 @@ module _ (M : Map ℕ) (s : ℕ) (parents : List Parent) (S : LeadsBack M s pare
     pub few : length w < 1024
     few = omega (arith, R.distances, S.short g R.goal_known)
 
-    module _ (k : ℕ) (e : parent_of parents step ≡ Along k) where
-      says : Says M s parents S.distance step (Along k)
+    module _ (k : ℕ) (e : parent_of parents step ≡ Some (Along k)) where
+      says : Says M s parents S.distance step (Some (Along k))
       says = subst (Says M s parents S.distance step) e (S.says step)
 
       pub back : Reading M parents S.distance g (M.from k) (k ∷ w)
@@ -70,7 +75,7 @@ module _ (M : Map ℕ) (s : ℕ) (parents : List Parent) (S : LeadsBack M s pare
           farther' v (inr i) = omega (arith, above v i)
 
     -- the start is reached
-    pub at_start : parent_of parents step ≡ Start → ShortestRoad M s w g
+    pub at_start : parent_of parents step ≡ Some Start → ShortestRoad M s w g
     at_start e =
         let is : step ≡ s = subst (Says M s parents S.distance step) e (S.says step) in
         record {

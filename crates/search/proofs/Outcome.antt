@@ -1,15 +1,15 @@
 -- What the parents tell, while the search goes on and when it ends.
-use Rattle.std.proofs.Common.{◌≡◌, ℕ, zero, suc, ◌+◌, ◌<◌, ◌≤◌, true, ◌↔◌, List, [], ◌∷◌, ◌++◌, length, get_or, sym, ap, ◌∙◌, subst, inl, inr, arith}
+use Rattle.std.proofs.Common.{◌≡◌, ℕ, zero, suc, ◌+◌, ◌<◌, ◌≤◌, true, ◌↔◌, Option, Some, None, is_some, List, [], ◌∷◌, ◌++◌, length, get_or, sym, ap, ◌∙◌, subst, inl, inr, arith}
 use Rattle.std.proofs.lemmas.Bool.{cases_lt, true≢false}
 use Rattle.network.specs.Walk.{Map, Walk, Leads}
 use Rattle.network.proofs.Walks.{walk_push}
-use Rattle.search.specs.Record.{parent_of, is_reached}
+use Rattle.search.specs.Record.{parent_of}
 use Rattle.search.specs.Progress.{Known, Says, Progress, LeadsBack}
 use Rattle.search.specs.declared.reach.Parent.{Parent}
-use Rattle.search.specs.declared.reach.Parent.TheVariants.{Unreached, Start, Along}
+use Rattle.search.specs.declared.reach.Parent.TheVariants.{Start, Along}
 use Rattle.search.proofs.Turns.{filled}
 
-module _ (M : Map ℕ) (n s : ℕ) (parents : List Parent) (queue : List ℕ) (count h b : ℕ) (P : Progress M n s parents queue count h b) where
+module _ (M : Map ℕ) (n s : ℕ) (parents : List (Option Parent)) (queue : List ℕ) (count h b : ℕ) (P : Progress M n s parents queue count h b) where
   -- a walk of at most m arcs from the start leads to a step that is reached, where all nearer than m are done
   arrives : (m : ℕ) → ((i : ℕ) → i < count → P.state.distance (get_or queue i 0) < m → i < h)
       → (u : ℕ) (w : List ℕ) (v : ℕ) → Walk M u w v → Known parents u → P.state.distance u + length w ≤ m
@@ -54,15 +54,15 @@ module _ (M : Map ℕ) (n s : ℕ) (parents : List Parent) (queue : List ℕ) (c
   pub whole : count ≤ h → (v : ℕ) → Leads M s v → Known parents v
   whole over v (w, x) = (arrives (length w) (λ i ic l. omega arith) s w v x P.state.start_known (omega (arith, P.state.start_distance))).0
 
-module _ (M : Map ℕ) (s : ℕ) (parents : List Parent) (S : LeadsBack M s parents) where
+module _ (M : Map ℕ) (s : ℕ) (parents : List (Option Parent)) (S : LeadsBack M s parents) where
   sound_within : (m v : ℕ) → S.distance v < m → Known parents v → Leads M s v
   sound_within zero v l kv = absurd (omega arith)
   sound_within (suc m) v l kv = by (parent_of parents v) kv (S.says v) (λ u d k. sound_within m u d k)
     where
-      by : (p : Parent) → is_reached p ≡ true → Says M s parents S.distance v p → ((u : ℕ) → S.distance u < m → Known parents u → Leads M s u) → Leads M s v
-      by Unreached k y more = absurd (true≢false (sym k))
-      by Start k y more = ([], sym y)
-      by (Along k) _ (pk, to, kf, d) more =
+      by : (p : Option Parent) → is_some p ≡ true → Says M s parents S.distance v p → ((u : ℕ) → S.distance u < m → Known parents u → Leads M s u) → Leads M s v
+      by None k y more = absurd (true≢false (sym k))
+      by (Some Start) k y more = ([], sym y)
+      by (Some (Along k)) _ (pk, to, kf, d) more =
           let r = more (M.from k) (omega arith) kf in
           (r.0 ++ (k ∷ []), subst (Walk M s (r.0 ++ (k ∷ []))) to (walk_push M s r.0 k r.1 pk))
 

@@ -1,16 +1,16 @@
 -- What one turn does to the state of a search.
-use Rattle.std.proofs.Common.{◌≡◌, ℕ, ◌+◌, ◌-◌, ◌<◌, ◌≤◌, Bool, true, false, cond, eqb, ◌≢◌, List, get_or, set, replicate, sym, refl, ap, ◌∙◌, subst, inl, inr, arith}
+use Rattle.std.proofs.Common.{◌≡◌, ℕ, ◌+◌, ◌-◌, ◌<◌, ◌≤◌, Bool, true, false, cond, eqb, ◌≢◌, List, Option, Some, None, is_some, get_or, set, replicate, sym, refl, ap, ◌∙◌, subst, inl, inr, arith}
 use Rattle.std.proofs.lemmas.List.{get_or-set_same, get_or-set_other, length-set, length-replicate}
 use Rattle.std.proofs.lemmas.Bool.{true≢false, cases_lt, cases_eq, eq-eqb, ne_eqb, cond-true, cond-false}
 use Rattle.network.specs.Walk.{Map}
 use Rattle.search.specs.Inside.{Step}
-use Rattle.search.specs.Record.{parent_of, is_reached}
+use Rattle.search.specs.Record.{parent_of}
 use Rattle.search.specs.Progress.{Known, Says, Seen, how_many_known, Progress}
 use Rattle.search.specs.declared.reach.Parent.{Parent}
-use Rattle.search.specs.declared.reach.Parent.TheVariants.{Unreached, Start, Along}
+use Rattle.search.specs.declared.reach.Parent.TheVariants.{Start, Along}
 use Rattle.search.proofs.Parents.{entry_of, parent_same, parent_other, none_known, count_none, count_set, count_steps}
 
-pub filled : (M : Map ℕ) (n s : ℕ) (parents : List Parent) (queue : List ℕ) (count h b : ℕ) → Progress M n s parents queue count h b → count ≤ n
+pub filled : (M : Map ℕ) (n s : ℕ) (parents : List (Option Parent)) (queue : List ℕ) (count h b : ℕ) → Progress M n s parents queue count h b → count ≤ n
 filled M n s parents queue count h b P = omega (arith, count_steps parents n (λ v k. (P.state.known_step v k).1), P.state.counted)
 
 -- d, but x at v
@@ -25,7 +25,7 @@ put_other : (d : ℕ → ℕ) (v w x : ℕ) → w ≢ v → put d v x w ≡ d w
 unfolding put
 put_other d v w x ne = cond-false (eqb w v) x (d w) (ne_eqb w v ne)
 
-module _ (M : Map ℕ) (n s : ℕ) (parents : List Parent) (queue : List ℕ) (count h b : ℕ) (P : Progress M n s parents queue count h b) (hc : h < count) where
+module _ (M : Map ℕ) (n s : ℕ) (parents : List (Option Parent)) (queue : List ℕ) (count h b : ℕ) (P : Progress M n s parents queue count h b) (hc : h < count) where
   -- the arcs from b up to c that leave the step in hand lead to steps that are reached
   pub pass : (c : ℕ) → b ≤ c → ((k : ℕ) → b ≤ k → k < c → M.passable k ≡ true → M.from k ≡ get_or queue h 0 → Known parents (M.to k)) → Progress M n s parents queue count h c
   pass c bc known = record {
@@ -51,38 +51,38 @@ module _ (M : Map ℕ) (n s : ℕ) (parents : List Parent) (queue : List ℕ) (c
           ]
 
   -- arc b leads from the step in hand to v, which was not reached
-  module _ (v : ℕ) (pb : M.passable b ≡ true) (to : M.to b ≡ v) (at : M.from b ≡ get_or queue h 0) (st : Step n v) (new : is_reached (parent_of parents v) ≡ false) where
-    parents' : List Parent
-    parents' = set parents (v - 1) (Along b)
+  module _ (v : ℕ) (pb : M.passable b ≡ true) (to : M.to b ≡ v) (at : M.from b ≡ get_or queue h 0) (st : Step n v) (new : is_some (parent_of parents v) ≡ false) where
+    parents' : List (Option Parent)
+    parents' = set parents (v - 1) (Some (Along b))
 
     queue' : List ℕ
     queue' = set queue count v
 
-    grown : how_many_known (set parents (v - 1) (Along b)) ≡ how_many_known parents + 1
-    grown = count_set parents (v - 1) (Along b) (omega (arith, st.0, st.1, P.state.small, P.state.table)) (ap is_reached (entry_of parents v st.0) ∙ new) refl
+    grown : how_many_known (set parents (v - 1) (Some (Along b))) ≡ how_many_known parents + 1
+    grown = count_set parents (v - 1) (Some (Along b)) (omega (arith, st.0, st.1, P.state.small, P.state.table)) (ap is_some (entry_of parents v st.0) ∙ new) refl
 
     known_old : (w : ℕ) → Known parents w → w ≢ v
-    known_old w kn e = true≢false (sym kn ∙ ap (λ x. is_reached (parent_of parents x)) e ∙ new)
+    known_old w kn e = true≢false (sym kn ∙ ap (λ x. is_some (parent_of parents x)) e ∙ new)
 
     old_parent : (w : ℕ) → w ≢ v → parent_of parents' w ≡ parent_of parents w
     unfolding parents'
-    old_parent w ne = parent_other parents v w (Along b) st.0 ne
+    old_parent w ne = parent_other parents v w (Some (Along b)) st.0 ne
 
-    new_parent : parent_of parents' v ≡ Along b
+    new_parent : parent_of parents' v ≡ Some (Along b)
     unfolding parents'
-    new_parent = parent_same parents v (Along b) st.0 (omega (arith, st.1, P.state.small, P.state.table))
+    new_parent = parent_same parents v (Some (Along b)) st.0 (omega (arith, st.1, P.state.small, P.state.table))
 
     kept : (w : ℕ) → Known parents w → Known parents' w
-    kept w kn = ap is_reached (old_parent w (known_old w kn)) ∙ kn
+    kept w kn = ap is_some (old_parent w (known_old w kn)) ∙ kn
 
     new_known : Known parents' v
-    new_known = ap is_reached new_parent
+    new_known = ap is_some new_parent
 
     known_step' : (w : ℕ) → Known parents' w → Step n w
     known_step' w kn =
         elim (cases_eq w v) [
           | inl e ↦ subst (Step n) (sym e) st
-          | inr ne ↦ P.state.known_step w (sym (ap is_reached (old_parent w ne)) ∙ kn)
+          | inr ne ↦ P.state.known_step w (sym (ap is_some (old_parent w ne)) ∙ kn)
         ]
 
     full : count + 1 ≤ n
@@ -123,20 +123,20 @@ module _ (M : Map ℕ) (n s : ℕ) (parents : List Parent) (queue : List ℕ) (c
     seen_kept : (k : ℕ) → Known parents (M.from k) → Seen M parents P.state.distance k → Seen M parents' distance' k
     seen_kept k kn (kt, le) = (kept (M.to k) kt, omega (arith, old_distance (M.to k) kt, old_distance (M.from k) kn))
 
-    says_kept : (w : ℕ) (p : Parent) → Known parents w → Says M s parents P.state.distance w p → Says M s parents' distance' w p
-    says_kept w Unreached kn y = tt
-    says_kept w Start kn y = y
-    says_kept w (Along k) kn (pk, tk, kf, dk) = (pk, tk, kept (M.from k) kf, omega (arith, old_distance w kn, old_distance (M.from k) kf))
+    says_kept : (w : ℕ) (p : Option Parent) → Known parents w → Says M s parents P.state.distance w p → Says M s parents' distance' w p
+    says_kept w None kn y = tt
+    says_kept w (Some Start) kn y = y
+    says_kept w (Some (Along k)) kn (pk, tk, kf, dk) = (pk, tk, kept (M.from k) kf, omega (arith, old_distance w kn, old_distance (M.from k) kf))
 
-    says_new : Says M s parents' distance' v (Along b)
+    says_new : Says M s parents' distance' v (Some (Along b))
     says_new = (pb, to, kept (M.from b) from_known, omega (arith, new_distance, old_distance (M.from b) from_known, ap P.state.distance at))
 
-    unknown : (w : ℕ) (p : Parent) → is_reached p ≡ false → Says M s parents' distance' w p
-    unknown w Unreached u = tt
-    unknown w Start u = absurd (true≢false u)
-    unknown w (Along k) u = absurd (true≢false u)
+    unknown : (w : ℕ) (p : Option Parent) → is_some p ≡ false → Says M s parents' distance' w p
+    unknown w None u = tt
+    unknown w (Some Start) u = absurd (true≢false u)
+    unknown w (Some (Along k)) u = absurd (true≢false u)
 
-    says_old : (w : ℕ) (known : Bool) → is_reached (parent_of parents w) ≡ known → Says M s parents' distance' w (parent_of parents w)
+    says_old : (w : ℕ) (known : Bool) → is_some (parent_of parents w) ≡ known → Says M s parents' distance' w (parent_of parents w)
     says_old w true kn = says_kept w (parent_of parents w) kn (P.state.says w)
     says_old w false u = unknown w (parent_of parents w) u
 
@@ -144,7 +144,7 @@ module _ (M : Map ℕ) (n s : ℕ) (parents : List Parent) (queue : List ℕ) (c
     says' w =
         elim (cases_eq w v) [
           | inl e ↦ subst (λ x. Says M s parents' distance' x (parent_of parents' x)) (sym e) (subst (Says M s parents' distance' v) (sym new_parent) says_new)
-          | inr ne ↦ subst (Says M s parents' distance' w) (sym (old_parent w ne)) (says_old w (is_reached (parent_of parents w)) refl)
+          | inr ne ↦ subst (Says M s parents' distance' w) (sym (old_parent w ne)) (says_old w (is_some (parent_of parents w)) refl)
         ]
 
     queued' : (i : ℕ) → i < count + 1 → Known parents' (get_or queue' i 0)
@@ -158,7 +158,7 @@ module _ (M : Map ℕ) (n s : ℕ) (parents : List Parent) (queue : List ℕ) (c
     found' w kn =
         elim (cases_eq w v) [
           | inl e ↦ (count, omega arith, new_queue ∙ sym e)
-          | inr ne ↦ (let f = P.state.found w (sym (ap is_reached (old_parent w ne)) ∙ kn) in (f.0, omega (arith, f.1), old_queue f.0 f.1 ∙ f.2))
+          | inr ne ↦ (let f = P.state.found w (sym (ap is_some (old_parent w ne)) ∙ kn) in (f.0, omega (arith, f.1), old_queue f.0 f.1 ∙ f.2))
         ]
 
     near' : (i : ℕ) → i < count + 1 → distance' (get_or queue' i 0) ≤ i
@@ -201,12 +201,12 @@ module _ (M : Map ℕ) (n s : ℕ) (parents : List Parent) (queue : List ℕ) (c
               rw (e, to) (new_known, omega (arith, new_distance, old_distance (M.from b) from_known, ap P.state.distance at)))
         ]
 
-    pub push : Progress M n s (set parents (v - 1) (Along b)) (set queue count v) (count + 1) h (b + 1)
+    pub push : Progress M n s (set parents (v - 1) (Some (Along b))) (set queue count v) (count + 1) h (b + 1)
     unfolding parents' queue'
     push = record {
       state = record {
         distance = distance';
-        table = length-set parents (v - 1) (Along b) ∙ P.state.table;
+        table = length-set parents (v - 1) (Some (Along b)) ∙ P.state.table;
         places = length-set queue count v ∙ P.state.places;
         small = P.state.small;
         start = P.state.start;
@@ -237,27 +237,27 @@ module _ (M : Map ℕ) (n s : ℕ) (parents : List Parent) (queue : List ℕ) (c
     doing = λ k k0 pk from. absurd (omega arith);
   }
 
-abbrev pub blanks : List Parent
-blanks = replicate 1024 Unreached
+abbrev pub blanks : List (Option Parent)
+blanks = replicate 1024 None
 
 abbrev pub zeros : List ℕ
 zeros = replicate 1024 0
 
 -- only the start is reached
-pub begin : (M : Map ℕ) (n s : ℕ) → n ≤ 1024 → Step n s → Progress M n s (set blanks (s - 1) Start) (set zeros 0 s) 1 0 0
+pub begin : (M : Map ℕ) (n s : ℕ) → n ≤ 1024 → Step n s → Progress M n s (set blanks (s - 1) (Some Start)) (set zeros 0 s) 1 0 0
 begin M n s small st = record {
   state = record {
     distance = λ _. 0;
-    table = length-set blanks (s - 1) Start ∙ length-replicate 1024 Unreached;
+    table = length-set blanks (s - 1) (Some Start) ∙ length-replicate {A = Option Parent} 1024 None;
     places = length-set zeros 0 s ∙ length-replicate {A = ℕ} 1024 0;
     small = small;
     start = st;
-    start_known = ap is_reached told;
+    start_known = ap is_some told;
     start_distance = refl;
     says = says;
-    counted = count_set blanks (s - 1) Start (omega (arith, length-replicate 1024 Unreached, st.0, st.1)) (ap is_reached (entry_of blanks s st.0 ∙ none_known s)) refl ∙ ap (λ x. x + 1) (count_none 1024);
+    counted = count_set blanks (s - 1) (Some Start) (omega (arith, length-replicate {A = Option Parent} 1024 None, st.0, st.1)) (ap is_some (entry_of blanks s st.0 ∙ none_known s)) refl ∙ ap (λ x. x + 1) (count_none 1024);
     known_step = λ v kn. subst (Step n) (sym (only v kn)) st;
-    queued = λ i ic. (let e : i ≡ 0 = omega arith in rw (e, head) (ap is_reached told));
+    queued = λ i ic. (let e : i ≡ 0 = omega arith in rw (e, head) (ap is_some told));
     found = λ v kn. (0, omega arith, head ∙ sym (only v kn));
     near = λ i ic. omega arith;
     order = λ i j ij jc. omega arith;
@@ -267,25 +267,25 @@ begin M n s small st = record {
   doing = λ k k0 pk from. absurd (omega arith);
 }
   where
-    told : parent_of (set blanks (s - 1) Start) s ≡ Start
-    told = parent_same blanks s Start st.0 (omega (arith, length-replicate 1024 Unreached, st.1))
+    told : parent_of (set blanks (s - 1) (Some Start)) s ≡ Some Start
+    told = parent_same blanks s (Some Start) st.0 (omega (arith, length-replicate {A = Option Parent} 1024 None, st.1))
 
     head : get_or (set zeros 0 s) 0 0 ≡ s
     head = get_or-set_same zeros 0 s 0 (omega (arith, length-replicate {A = ℕ} 1024 0))
 
-    other : (v : ℕ) → v ≢ s → parent_of (set blanks (s - 1) Start) v ≡ Unreached
-    other v ne = parent_other blanks s v Start st.0 ne ∙ none_known v
+    other : (v : ℕ) → v ≢ s → parent_of (set blanks (s - 1) (Some Start)) v ≡ None
+    other v ne = parent_other blanks s v (Some Start) st.0 ne ∙ none_known v
 
-    only : (v : ℕ) → Known (set blanks (s - 1) Start) v → v ≡ s
+    only : (v : ℕ) → Known (set blanks (s - 1) (Some Start)) v → v ≡ s
     only v kn =
         elim (cases_eq v s) [
           | inl e ↦ e
-          | inr ne ↦ absurd (true≢false (sym kn ∙ ap is_reached (other v ne)))
+          | inr ne ↦ absurd (true≢false (sym kn ∙ ap is_some (other v ne)))
         ]
 
-    says : (v : ℕ) → Says M s (set blanks (s - 1) Start) (λ _. 0) v (parent_of (set blanks (s - 1) Start) v)
+    says : (v : ℕ) → Says M s (set blanks (s - 1) (Some Start)) (λ _. 0) v (parent_of (set blanks (s - 1) (Some Start)) v)
     says v =
         elim (cases_eq v s) [
-          | inl e ↦ subst (λ x. Says M s (set blanks (s - 1) Start) (λ _. 0) x (parent_of (set blanks (s - 1) Start) x)) (sym e) (subst (Says M s (set blanks (s - 1) Start) (λ _. 0) s) (sym told) refl)
-          | inr ne ↦ subst (Says M s (set blanks (s - 1) Start) (λ _. 0) v) (sym (other v ne)) tt
+          | inl e ↦ subst (λ x. Says M s (set blanks (s - 1) (Some Start)) (λ _. 0) x (parent_of (set blanks (s - 1) (Some Start)) x)) (sym e) (subst (Says M s (set blanks (s - 1) (Some Start)) (λ _. 0) s) (sym told) refl)
+          | inr ne ↦ subst (Says M s (set blanks (s - 1) (Some Start)) (λ _. 0) v) (sym (other v ne)) tt
         ]

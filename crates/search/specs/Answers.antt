@@ -1,11 +1,12 @@
 -- What a search answers.
-use Rattle.std.specs.Prelude.{◌≡◌, ℕ, ◌≤◌, true, ◌↔◌, List, length, Some, None, Option}
+use Rattle.std.specs.Prelude.{◌≡◌, ℕ, ◌≤◌, true, ◌↔◌, List, length, Some, None, Option, Ok, Err, Result}
 use Rattle.network.specs.Walk.{Map, Walk, Leads, Road}
 use Rattle.search.specs.Inside.{Step, inside}
 use Rattle.search.specs.Record.{reached, arcs_of}
-use Rattle.search.specs.declared.Answer.{Answer}
-use Rattle.search.specs.declared.Answer.TheVariants.{OutOfRange, Found, Missing}
+use Rattle.search.specs.declared.NoRoad.{NoRoad}
+use Rattle.search.specs.declared.NoRoad.TheVariants.{OutOfRange, Missing}
 use Rattle.search.specs.declared.reach.Reach.{Reach}
+use Rattle.search.specs.declared.road.Road.{Road as Found}
 
 -- the arcs lead from a to b and meet no step twice, and no walk from a to b has fewer (a shortest path)
 pub record ShortestRoad (M : Map ℕ) (a : ℕ) (w : List ℕ) (b : ℕ) : Type 0 where
@@ -23,10 +24,10 @@ pub record Takes (arcs n s : ℕ) : Type 0 where
   pub start : Step n s
 
 -- the question for a road from step s to step g of the steps 1 to n
-abbrev pub Answers : ℕ → Map ℕ → ℕ → ℕ → ℕ → Answer → Type 0
-Answers arcs M n s g OutOfRange = Takes arcs n s → Step n g → ⊥
-Answers arcs M n s g (Found r) = Takes arcs n s × Step n g × ShortestRoad (inside arcs n M) s (arcs_of r) g
-Answers arcs M n s g (Missing r) = Takes arcs n s × Step n g × (Leads (inside arcs n M) s g → ⊥) × Tells (inside arcs n M) s r
+abbrev pub Answers : ℕ → Map ℕ → ℕ → ℕ → ℕ → Result Found NoRoad → Type 0
+Answers arcs M n s g (Ok r) = Takes arcs n s × Step n g × ShortestRoad (inside arcs n M) s (arcs_of r) g
+Answers arcs M n s g (Err OutOfRange) = Takes arcs n s → Step n g → ⊥
+Answers arcs M n s g (Err (Missing r)) = Takes arcs n s × Step n g × (Leads (inside arcs n M) s g → ⊥) × Tells (inside arcs n M) s r
 
 -- the question for all steps that are reached from step s
 abbrev pub Explores : ℕ → Map ℕ → ℕ → ℕ → Option Reach → Type 0

@@ -1,23 +1,27 @@
 -- How the answers of a search are read.
-use Rattle.std.specs.Prelude.{ℕ, zero, suc, Bool, true, false, List, drop, slice_index_or}
+use Rattle.std.specs.Prelude.{ℕ, zero, suc, Bool, List, drop, slice_index_or, Option, Some, None, is_some}
 use Rattle.search.specs.declared.reach.Parent.{Parent}
-use Rattle.search.specs.declared.reach.Parent.TheVariants.{Unreached, Start, Along}
+use Rattle.search.specs.declared.reach.Parent.TheVariants.{Start, Along}
 use Rattle.search.specs.declared.reach.Reach.{Reach}
 use Rattle.search.specs.declared.road.Road.{Road}
 
--- how step v was reached; steps are counted from 1
-abbrev pub parent_of : List Parent → ℕ → Parent
-parent_of parents zero = Unreached
-parent_of parents (suc i) = slice_index_or parents i Unreached
+-- how step v was reached, if it was; steps are counted from 1
+abbrev pub parent_of : List (Option Parent) → ℕ → Option Parent
+parent_of parents zero = None
+parent_of parents (suc i) = slice_index_or parents i None
 
-abbrev pub is_reached : Parent → Bool
-is_reached Unreached = false
-is_reached Start = true
-is_reached (Along k) = true
+-- the arc by which it was reached; none for the start
+abbrev pub arc_of : Option Parent → Option ℕ
+arc_of None = None
+arc_of (Some Start) = None
+arc_of (Some (Along k)) = Some k
+
+abbrev pub arc_to : List (Option Parent) → ℕ → Option ℕ
+arc_to parents v = arc_of (parent_of parents v)
 
 -- the record says that step v was reached
 abbrev pub reached : Reach → ℕ → Bool
-reached r v = is_reached (parent_of r.parents v)
+reached r v = is_some (parent_of r.parents v)
 
 -- the arcs of a road, by their numbers
 abbrev pub arcs_of : Road → List ℕ

@@ -1,7 +1,7 @@
 // One breadth-first search, on any map of steps: a road with the fewest arcs, or exactly the steps that are reached.
 #![tactic(auto)]
 
-ghost use Rattle.std.specs.Prelude.{◌≡◌, ◌+◌, ◌-◌, ◌<◌, ◌≤◌, true, false, slice_index, slice_set};
+ghost use Rattle.std.specs.Prelude.{◌≡◌, ◌+◌, ◌-◌, ◌<◌, ◌≤◌, true, false, IfSome, slice_index, slice_set};
 ghost use Rattle.search.specs.Inside.{Step, inside};
 ghost use Rattle.search.specs.Record.{arcs_of, reached};
 ghost use Rattle.search.specs.Answers.{Answers, Explores, ShortestRoad};
@@ -21,19 +21,17 @@ const MOST_STEPS: usize = 1_024;
 
 const MOST_ARCS: usize = 8_192;
 
-// What is answered to the question for a road.
+// Why the question for a road is answered by none.
 #[derive(Drop)]
-pub enum Answer {
+pub enum NoRoad {
     // Too many steps or arcs, or start or goal is no step.
     OutOfRange,
-    // A road with the fewest arcs.
-    Found(Road),
     // There is none. These are the steps to which passable arcs lead from the start.
     Missing(Reach),
 }
 
 // A road from start to goal with the fewest arcs (shortest path), on the steps 1 to `steps`.
-pub fn search<M: Map>(map: &M, steps: usize, start: usize, goal: usize) -> Answer
+pub fn search<M: Map>(map: &M, steps: usize, start: usize, goal: usize) -> Result<Road, NoRoad>
     ensures { Answers (M.size map.now) (M.graph map.now) steps start goal result }
 {
     let arcs = map.arcs();
@@ -44,13 +42,13 @@ pub fn search<M: Map>(map: &M, steps: usize, start: usize, goal: usize) -> Answe
         || goal < 1
         || goal > steps
     {
-        return Answer::OutOfRange;
+        return Err(NoRoad::OutOfRange);
     }
-    let reach = spread(map, arcs, steps, start, goal);
+    let reach = spread(map, arcs, steps, start, Some(goal));
     if reach.reaches(goal) {
-        Answer::Found(road_to(map, steps, start, &reach, goal))
+        Ok(road_to(map, steps, start, &reach, goal))
     } else {
-        Answer::Missing(reach)
+        Err(NoRoad::Missing(reach))
     }
 }
 
@@ -63,7 +61,7 @@ pub fn explore<M: Map>(map: &M, steps: usize, start: usize) -> Option<Reach>
     if arcs > MOST_ARCS || steps > MOST_STEPS || start < 1 || start > steps {
         return None;
     }
-    Some(spread(map, arcs, steps, start, 0))
+    Some(spread(map, arcs, steps, start, None))
 }
 
 // The arcs that leave each step, in rising order (adjacency lists): the first one, and after each arc the next. After the
@@ -117,11 +115,11 @@ impl Work {
     // Notes that a step was reached.
     fn push(&mut self, step: usize, parent: Parent)
         requires { (Step 1024 step) × (self.old.count < 1024) }
-        ensures parents { self.new.reach.parents ≡ slice_set self.old.reach.parents (step - 1) parent }
+        ensures parents { self.new.reach.parents ≡ slice_set self.old.reach.parents (step - 1) (Some parent) }
         ensures queue { self.new.queue ≡ slice_set self.old.queue self.old.count step }
         ensures count { self.new.count ≡ self.old.count + 1 }
     {
-        self.reach.parents[step - 1] = parent;
+        self.reach.parents[step - 1] = Some(parent);
         self.queue[self.count] = step as u16;
         self.count += 1;
     }
@@ -177,26 +175,26 @@ fn scan<M: Map>(
     }
 }
 
-// Goes breadth first from the start, until the goal is reached or nothing is left; no step is numbered 0.
-fn spread<M: Map>(map: &M, arcs: usize, steps: usize, start: usize, goal: usize) -> Reach
+// Goes breadth first from the start, until the goal is reached, where there is one, or nothing is left.
+fn spread<M: Map>(map: &M, arcs: usize, steps: usize, start: usize, goal: Option<usize>) -> Reach
     requires limit { arcs ≤ 8192 }
     requires small { steps ≤ 1024 }
     requires start { Step steps start }
     requires arcs { arcs ≡ M.size map.now }
     ensures searched { Searched (inside (M.size map.now) steps (M.graph map.now)) start result }
-    ensures whole { reached result goal ≡ false → Whole (inside (M.size map.now) steps (M.graph map.now)) start result }
+    ensures whole { IfSome goal (λ g. reached result g ≡ false) → Whole (inside (M.size map.now) steps (M.graph map.now)) start result }
 {
     let index = indexed(map, arcs, steps);
     let mut work = Work {
         reach: Reach {
-            parents: [Parent::Unreached; 1024],
+            parents: [None; 1024],
         },
         queue: [0; 1024],
         count: 0,
     };
     work.push(start, Parent::Start);
     let mut h = 0;
-    while h < work.count && !work.reach.reaches(goal) {
+    while h < work.count && goal.is_none_or(|goal| !work.reach.reaches(goal)) {
         scan(map, &index, arcs, steps, start, &mut work, h);
         h += 1;
     }
@@ -214,7 +212,7 @@ fn road_to<M: Map>(map: &M, steps: usize, start: usize, reach: &Reach, goal: usi
         first: 1_024,
     };
     let mut step = goal;
-    while let Parent::Along(k) = reach.parent(step) {
+    while let Some(k) = reach.arc_to(step) {
         road.first -= 1;
         road.table[road.first] = k;
         step = map.ends(k as usize).from;

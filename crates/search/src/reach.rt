@@ -1,10 +1,9 @@
 ghost use Rattle.std.specs.Prelude.{◌≡◌};
-ghost use Rattle.search.specs.Record.{parent_of, reached};
+ghost use Rattle.search.specs.Record.{parent_of, arc_to, reached};
 
 // How a step was reached: it is the start, or by an arc (its parent arc).
 #[derive(Clone, Copy)]
 pub(super) enum Parent {
-    Unreached,
     Start,
     Along(u16),
 }
@@ -12,20 +11,24 @@ pub(super) enum Parent {
 // The steps that a search reached; step v has entry v - 1.
 #[derive(Drop)]
 pub struct Reach {
-    pub(super) parents: [Parent; 1024],
+    pub(super) parents: [Option<Parent>; 1024],
 }
 
 impl Reach {
-    // How a step was reached; one that the table has no entry for was not.
-    pub(super) fn parent(&self, step: usize) -> Parent
+    // How a step was reached, if it was; one that the table has no entry for was not.
+    pub(super) fn parent(&self, step: usize) -> Option<Parent>
         ensures { result ≡ parent_of self.now.parents step }
     {
-        if step == 0 {
-            return Parent::Unreached;
-        }
-        match self.parents.get(step - 1) {
-            Some(parent) => *parent,
-            None => Parent::Unreached,
+        *self.parents.get(step.checked_sub(1)?)?
+    }
+
+    // The arc by which a step was reached; none for the start, and for a step that was not reached.
+    pub(super) fn arc_to(&self, step: usize) -> Option<u16>
+        ensures { result ≡ arc_to self.now.parents step }
+    {
+        match self.parent(step)? {
+            Parent::Start => None,
+            Parent::Along(k) => Some(k),
         }
     }
 
@@ -33,10 +36,6 @@ impl Reach {
     pub fn reaches(&self, step: usize) -> bool
         ensures { result ≡ reached self.now step }
     {
-        match self.parent(step) {
-            Parent::Unreached => false,
-            Parent::Start => true,
-            Parent::Along(_) => true,
-        }
+        self.parent(step).is_some()
     }
 }

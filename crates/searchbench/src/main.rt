@@ -3,11 +3,11 @@
 #![tactic(auto)]
 
 use kinds::size::Size;
-use maps::open_way;
-use search::Answer;
+use maps::Chart;
+use search::NoRoad;
 use sheets::Feed;
-use std::env;
 use std::time::Instant;
+use std::{env, fmt};
 
 // How many searches are timed together.
 const TURNS: u32 = 2_000;
@@ -24,16 +24,18 @@ enum Family {
     Dense,
 }
 
-impl Family {
-    fn name(self) -> &'static str {
-        match self {
+impl fmt::Display for Family {
+    fn fmt<W: fmt::Write>(&self, f: &mut fmt::Formatter<W>) -> fmt::Result {
+        f.write_str(match self {
             Family::Chain => "chain",
             Family::Broom => "broom",
             Family::Woven => "woven",
             Family::Dense => "dense",
-        }
+        })
     }
+}
 
+impl Family {
     // The steps of four maps, each with about twice as many steps and arcs as the one before.
     fn sizes(self) -> [u16; 4] {
         match self {
@@ -73,20 +75,13 @@ fn put(feeds: &mut Vec<Feed<Size>>, from: u16, to: u16) -> anyhow::Result<()> {
     Ok(())
 }
 
-// How many of the steps open moves reach from step 1, where none leads to the last step.
-fn reached(feeds: &[Feed<Size>], steps: usize) -> usize {
-    match open_way(steps, 1, steps, feeds, &[], &[]) {
-        Answer::Missing(reach) => {
-            let mut count = 0usize;
-            for step in 1..1_025 {
-                if reach.reaches(step) {
-                    count = count.saturating_add(1);
-                }
-            }
-            count
-        }
-        Answer::Found(_) => 0,
-        Answer::OutOfRange => 0,
+// How many steps open moves reach from the source, where none leads to the sink.
+fn reached(chart: Chart<Size>) -> usize {
+    match chart.open_way(&[]) {
+        Err(NoRoad::Missing(reach)) => (1..=chart.steps)
+            .filter(|step| reach.reaches(*step))
+            .count(),
+        _ => 0,
     }
 }
 
@@ -97,16 +92,15 @@ struct Measure {
     nanos: u128,
 }
 
-fn time_search(rt: &HostRuntime, feeds: &[Feed<Size>], goal: usize) -> anyhow::Result<Measure> {
+fn time_search(rt: &HostRuntime, chart: Chart<Size>) -> anyhow::Result<Measure> {
     let start = Instant::now(rt)?;
-    let mut missing = 0u128;
-    for _turn in 0..TURNS {
-        if let Answer::Missing(_) = open_way(goal, 1, goal, feeds, &[], &[]) {
-            missing = missing.saturating_add(1);
-        }
-    }
+    let missing = (0..TURNS)
+        .filter(|_| matches!(chart.open_way(&[]), Err(NoRoad::Missing(_))))
+        .count() as u128;
     let nanos = start.elapsed(rt)?.as_nanos() / missing.max(1);
-    let size = goal.saturating_add(feeds.len().saturating_mul(2)) as u128;
+    let size = chart
+        .steps
+        .saturating_add(chart.feeds.len().saturating_mul(2)) as u128;
     Ok(Measure { size, nanos })
 }
 
@@ -122,17 +116,20 @@ fn show(rt: &HostRuntime, family: Family, timed: bool) -> anyhow::Result<()> {
     for steps in family.sizes() {
         let mut feeds = Vec::new(rt.alloc());
         family.fill(&mut feeds, steps)?;
-        let goal = steps as usize + 1;
+        let goal = usize::from(steps) + 1;
+        let chart = Chart {
+            steps: goal,
+            source: 1,
+            sink: goal,
+            feeds: &feeds,
+            bars: &[],
+        };
         let arcs = feeds.len().saturating_mul(2);
-        let count = reached(&feeds, goal);
-        println!(rt;
-            "{}: {goal} steps, {arcs} arcs, {count} reached",
-            family.name()
-        )?;
+        let count = reached(chart);
+        println!(rt; "{family}: {goal} steps, {arcs} arcs, {count} reached")?;
         if timed {
-            let now = time_search(rt, &feeds, goal)?;
-            let then = first.unwrap_or(now);
-            first = Some(then);
+            let now = time_search(rt, chart)?;
+            let then = *first.get_or_insert(now);
             let size = percent(now.size, then.size);
             let time = percent(now.nanos, then.nanos);
             println!(rt;

@@ -1,4 +1,4 @@
-use Rattle.std.proofs.Common.{refl, arith}
+use Rattle.std.proofs.Common.{arith}
 use Rattle.search.proofs.Outcome.{tells}
 use Rattle.search.proofs.explore.Goals as goal
 
@@ -9,5 +9,5 @@ returns g c = (
     few_steps = c.if-steps-gt-MOST_STEPS.false;
     start = (c.if-start-lt1.false, c.if-start-steps.false);
   },
-  tells _ _ _ c.spread.ensures.searched (c.spread.ensures.whole refl),
+  tells _ _ _ c.spread.ensures.searched (c.spread.ensures.whole tt),
 )

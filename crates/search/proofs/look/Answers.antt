@@ -1,7 +1,7 @@
-use Rattle.std.proofs.Common.{◌≡◌, ℕ, ◌+◌, List, get_or, refl, ap, ◌∙◌, subst, inl, inr, arith}
+use Rattle.std.proofs.Common.{◌≡◌, ℕ, ◌+◌, List, is_some, get_or, refl, ap, ◌∙◌, subst, inl, inr, arith}
 use Rattle.std.proofs.lemmas.List.{get_or-set_other}
 use Rattle.std.proofs.lemmas.Bool.{cases_Bool}
-use Rattle.search.specs.Record.{parent_of, is_reached}
+use Rattle.search.specs.Record.{parent_of}
 use Rattle.search.specs.Progress.{Fresh}
 use Rattle.search.proofs.Inner.{passes, passed, ends_inside}
 use Rattle.search.proofs.Turns.{push, room, pass}
@@ -39,7 +39,7 @@ returns-else-is_fresh g c =
       at = refl;
       progress = pass _ _ _ _ _ _ _ _ c.requires.progress c.requires.inside (c.args.k + 1) (omega arith) (λ k low high pk from.
           let e : k ≡ c.args.k = omega arith in
-          elim (cases_Bool (is_reached (parent_of reach.parents (M.to k)))) [
+          elim (cases_Bool (is_some (parent_of reach.parents (M.to k)))) [
             | inl known ↦ known
             | inr new ↦ absurd (c.is_fresh.ensures.refused c.if-is_fresh.false (subst (Fresh M reach c.args.steps) e (record {
               passable = passed (g.M.Map.size c.args.map.now) c.args.steps M k pk;

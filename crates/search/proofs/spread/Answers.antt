@@ -1,9 +1,8 @@
-use Rattle.std.proofs.Common.{◌∙◌, arith}
-use Rattle.std.proofs.lemmas.Bool.{true≢false}
+use Rattle.std.proofs.Common.{rules, arith}
 use Rattle.search.proofs.Turns.{filled, begin}
 use Rattle.search.proofs.Outcome.{searched, whole}
 use Rattle.search.proofs.spread.Goals as goal
-use Rattle.search.proofs.spread.Goals.{then-loop-h-test+else-not-reaches, else-loop-h-test}
+use Rattle.search.proofs.spread.Goals.{then-loop-h-test+else-is_none_or, else-loop-h-test}
 
 pub loop-h-init : goal.loop-h-init
 loop-h-init g c = rw (c.push.ensures.parents, c.push.ensures.queue, c.push.ensures.count) (begin _ _ _ c.requires.small c.requires.start)
@@ -18,9 +17,9 @@ pub returns : goal.returns
 returns g c =
     let P = c.loop-h.invariant in
     elim c.loop-h-test.branch [
-      | then-loop-h-test+else-not-reaches w ↦ record {
+      | then-loop-h-test+else-is_none_or w ↦ record {
         searched = searched _ _ _ _ _ _ _ _ P;
-        whole = λ none. absurd (true≢false (w.if-not-reaches.ensures ∙ none));
+        whole = λ none. (let no : ⊥ = search rules in absurd no);
       }
       | else-loop-h-test w ↦ record {
         searched = searched _ _ _ _ _ _ _ _ P;
