@@ -1,7 +1,7 @@
 -- What the parents tell, while the search goes on and when it ends.
 use Rattle.std.proofs.Common.{◌≡◌, ℕ, zero, suc, ◌+◌, ◌<◌, ◌≤◌, true, ◌↔◌, Option, Some, None, is_some, List, [], ◌∷◌, ◌++◌, length, slice_get, refl, sym, ap, ◌∙◌, subst, inl, inr, arith}
 use Rattle.std.proofs.lemmas.Bool.{cases_lt, true≢false}
-use Rattle.std.proofs.lemmas.Option.{slice_get_within}
+use Rattle.std.proofs.lemmas.Option.{slice_get_within, gets}
 use Rattle.network.specs.Walk.{Map, Walk, Leads}
 use Rattle.network.proofs.Walks.{walk_push}
 use Rattle.search.specs.Record.{parent_of}
@@ -11,9 +11,7 @@ use Rattle.search.specs.declared.reach.Parent.TheVariants.{Start, Along}
 use Rattle.search.proofs.Turns.{filled}
 
 past : (queue : List ℕ) (h : ℕ) → slice_get queue h ≡ None → length queue ≤ h
-past [] h e = omega arith
-past (x ∷ xs) zero e = cc
-past (x ∷ xs) (suc h) e = omega (arith, past xs h e)
+past queue h e = grind (arith, gets)
 
 module _ {M : Map ℕ} {s : ℕ} {parents : List (Option Parent)} {queue : List ℕ} {h b : ℕ} (P : Progress M s parents queue h b) where
   -- a walk of at most m arcs from the start leads to a step that is reached, where all nearer than m are done

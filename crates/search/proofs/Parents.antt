@@ -1,12 +1,12 @@
 -- The table of parents: how it is read, and one entry written.
-use Rattle.std.proofs.Common.{◌≡◌, ℕ, zero, suc, ◌+◌, ◌-◌, ◌<◌, ◌≤◌, true, false, cond, ◌≢◌, Option, None, is_some, List, length, get_or, set, replicate, sym, refl, ap, ◌∙◌, inl, inr, arith}
+use Rattle.std.proofs.Common.{◌≡◌, ℕ, zero, suc, ◌+◌, ◌-◌, ◌<◌, ◌≤◌, true, false, cond, ◌≢◌, Option, None, is_some, count_by, List, length, get_or, set, replicate, sym, refl, ap, ◌∙◌, inl, inr, arith}
 use Rattle.std.proofs.lemmas.List.{get_or-set_same, get_or-set_other, get_or-replicate, length-replicate, get_or_past}
 use Rattle.std.proofs.lemmas.List.Sums.{sum_by-set}
 use Rattle.std.proofs.lemmas.List.Folds.{sum_by-replicate}
 use Rattle.std.proofs.lemmas.Bool.{true≢false, cases_lt}
 use Rattle.search.specs.Inside.{Step}
 use Rattle.search.specs.Record.{parent_of}
-use Rattle.search.specs.Progress.{Known, how_many_known}
+use Rattle.search.specs.Progress.{Known}
 use Rattle.search.specs.declared.reach.Parent.{Parent}
 
 pub entry_of : (ps : List (Option Parent)) (v : ℕ) → 1 ≤ v → get_or ps (v - 1) None ≡ parent_of ps v
@@ -37,10 +37,10 @@ none_known (suc i) =
       | inr g ↦ get_or_past (replicate 1024 None) i None (omega (arith, length-replicate {A = Option Parent} 1024 None))
     ]
 
-pub count_none : (n : ℕ) → how_many_known (replicate n None) ≡ 0
+pub count_none : (n : ℕ) → count_by is_some (replicate {A = Option Parent} n None) ≡ 0
 count_none n = omega (arith, sum_by-replicate (λ (p : Option Parent). cond (is_some p) 1 0) n None)
 
-pub count_set : (ps : List (Option Parent)) (i : ℕ) (p : Option Parent) → i < length ps → is_some (get_or ps i None) ≡ false → is_some p ≡ true → how_many_known (set ps i p) ≡ how_many_known ps + 1
+pub count_set : (ps : List (Option Parent)) (i : ℕ) (p : Option Parent) → i < length ps → is_some (get_or ps i None) ≡ false → is_some p ≡ true → count_by is_some (set ps i p) ≡ count_by is_some ps + 1
 count_set ps i p l u k =
     let e = sum_by-set (λ p. cond (is_some p) 1 0) ps i p None l in
     let e' = rw (u, k) at e in

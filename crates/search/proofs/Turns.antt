@@ -1,5 +1,5 @@
 -- What one turn does to the state of a search.
-use Rattle.std.proofs.Common.{◌≡◌, ℕ, zero, suc, ◌+◌, ◌-◌, ◌<◌, ◌≤◌, Bool, true, false, cond, eqb, ◌≢◌, ◌⊎◌, List, [], ◌∷◌, ◌++◌, length, Option, Some, None, is_some, unwrap_or, slice_get, set, replicate, sym, refl, ap, ◌∙◌, subst, inl, inr, arith}
+use Rattle.std.proofs.Common.{◌≡◌, ℕ, zero, suc, ◌+◌, ◌-◌, ◌<◌, ◌≤◌, Bool, true, false, cond, eqb, ◌≢◌, ◌⊎◌, List, [], ◌∷◌, ◌++◌, length, Option, Some, None, is_some, count_by, unwrap_or, slice_get, set, replicate, sym, refl, ap, ◌∙◌, subst, inl, inr, arith}
 use Rattle.std.proofs.lemmas.List.{length-set, length-replicate, length-append}
 use Rattle.std.proofs.lemmas.List.Sums.{count_by-le-length}
 use Rattle.std.proofs.lemmas.Option.{same_Some, slice_get_within}
@@ -8,7 +8,7 @@ use Rattle.network.specs.Walk.{Map}
 use Rattle.search.specs.Inside.{Step}
 use Rattle.search.specs.Record.{parent_of}
 use Rattle.search.specs.Index.{Next}
-use Rattle.search.specs.Progress.{Known, Says, Seen, how_many_known, Fresh, Ordered, Progress}
+use Rattle.search.specs.Progress.{Known, Says, Seen, Fresh, Ordered, Progress}
 use Rattle.search.specs.declared.reach.Parent.{Parent}
 use Rattle.search.specs.declared.reach.Parent.TheVariants.{Start, Along}
 use Rattle.search.proofs.Parents.{entry_of, known_step, parent_same, parent_other, none_known, count_none, count_set}
@@ -96,7 +96,7 @@ module _ {M : Map ℕ} {s : ℕ} {parents : List (Option Parent)} {queue : List 
     parents' : List (Option Parent)
     parents' = set parents (v - 1) (Some (Along b))
 
-    grown : how_many_known (set parents (v - 1) (Some (Along b))) ≡ how_many_known parents + 1
+    grown : count_by is_some (set parents (v - 1) (Some (Along b))) ≡ count_by is_some parents + 1
     grown = count_set parents (v - 1) (Some (Along b)) (omega (arith, st.0, st.1, P.state.table)) (ap is_some (entry_of parents v st.0) ∙ new) refl
 
     pub room : length queue < 1024

@@ -26,10 +26,6 @@ Says M s parents d v (Some (Along k)) = (M.passable k ≡ true) × (M.to k ≡ v
 abbrev pub Seen : Map ℕ → List (Option Parent) → (ℕ → ℕ) → ℕ → Type 0
 Seen M parents d k = Known parents (M.to k) × (d (M.to k) ≤ d (M.from k) + 1)
 
--- how many steps are reached
-abbrev pub how_many_known : List (Option Parent) → ℕ
-how_many_known parents = count_by is_some parents
-
 -- the queue has the reached steps, in the order of their distance
 pub record Ordered (M : Map ℕ) (s : ℕ) (parents : List (Option Parent)) (queue : List ℕ) : Type 0 where
   pub distance : ℕ → ℕ
@@ -37,7 +33,7 @@ pub record Ordered (M : Map ℕ) (s : ℕ) (parents : List (Option Parent)) (que
   pub start_known : Known parents s
   pub start_distance : distance s ≡ 0
   pub says : (v : ℕ) → Says M s parents distance v (parent_of parents v)
-  pub counted : how_many_known parents ≡ length queue
+  pub counted : count_by is_some parents ≡ length queue
   pub queued : (i v : ℕ) → slice_get queue i ≡ Some v → Known parents v
   pub found : (v : ℕ) → Known parents v → (i : ℕ) × (slice_get queue i ≡ Some v)
   pub near : (i v : ℕ) → slice_get queue i ≡ Some v → distance v ≤ i

@@ -122,7 +122,7 @@ impl<'a, M: Map> Question<'a, M> {
     {
         let index = self.index();
         let mut work = Work::new(self.start);
-        while let Some(step) = work.next() {
+        while let Some(step) = work.next_step() {
             if goal.is_some_and(|goal| work.reach.reaches(goal)) {
                 break;
             }

@@ -48,7 +48,7 @@ impl Work {
     }
 
     // The step that is next in the queue.
-    pub(super) fn next(&self) -> Option<usize>
+    pub(super) fn next_step(&self) -> Option<usize>
         ensures { result ≡ next_step self.now }
     {
         self.queue.get(self.done).copied().map(usize::from)

@@ -11,14 +11,14 @@ loop-step-init g c =
 
 pub loop-step-smaller : goal.loop-step-smaller
 loop-step-smaller g c =
-    omega (arith, c.scan.ensures.done, place_in_hand c.loop-step.invariant c.in-Some.step (sym c.next.ensures ∙ c.in-Some.is))
+    omega (arith, c.scan.ensures.done, place_in_hand c.loop-step.invariant c.in-Some.step (sym c.next_step.ensures ∙ c.in-Some.is))
 
 pub returns-clause-searched : goal.returns-clause-searched
 returns-clause-searched g c = searched c.loop-step.invariant
 
 pub returns-clause-whole : goal.returns-clause-whole
 returns-clause-whole g c =
-    elim c.match-next.branch [
+    elim c.match-next_step.branch [
       | in-Some+then-is_some_and w ↦ (λ none. (let no : ⊥ = search rules in absurd no))
-      | in_default w ↦ (λ _. whole c.loop-step.invariant (sym c.next.ensures ∙ w.in_default.is))
+      | in_default w ↦ (λ _. whole c.loop-step.invariant (sym c.next_step.ensures ∙ w.in_default.is))
     ]
