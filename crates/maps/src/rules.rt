@@ -42,7 +42,7 @@ fn flow_at<P: Price>(flows: &[P], k: usize) -> P
 fn has_room<P: Price>(flow: P, price: P) -> bool
     ensures { Decides result (P.kind.means flow <ℤ P.kind.means price) }
 {
-    flow.compare(price).is_lt()
+    flow < price
 }
 
 impl<P: Price> Rule<P> for Open<'_, P> {
