@@ -94,7 +94,7 @@ impl Ranked {
     }
 }
 
-// Totals compare by the numbers that they are read as.
+// Totals compare by the numbers that they are read as; a derive would compare the fields.
 impl Ord for Ranked {
     ghost cmp = { on ranked_means int_cmp };
 

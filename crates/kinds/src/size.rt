@@ -45,7 +45,7 @@ impl Size {
     }
 }
 
-// Sizes compare by the MiB that they are read as.
+// Sizes compare by the MiB that they are read as; a derive would compare the fields.
 impl Ord for Size {
     ghost cmp = { on size_means int_cmp };
 
