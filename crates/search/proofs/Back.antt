@@ -1,6 +1,8 @@
 -- A road read back from the goal, one arc after the other.
-use Rattle.std.proofs.Common.{◌≡◌, ℕ, ◌+◌, ◌-◌, ◌<◌, ◌≤◌, true, Option, Some, None, is_some, List, [], ◌∷◌, length, drop, set, sym, refl, ap, ◌∙◌, subst, inl, inr, arith}
-use Rattle.std.proofs.lemmas.List.{length-drop, drop-set}
+use Rattle.std.proofs.Common.{◌≡◌, ℕ, ◌<◌, ◌≤◌, true, Option, Some, None, is_some, List, [], ◌∷◌, length, reverse, sym, refl, ap, subst, inl, inr, arith}
+use Rattle.std.specs.List.{refill}
+use Rattle.std.proofs.lemmas.Grind.{common_steps}
+use Rattle.std.proofs.lemmas.List.{length-reverse}
 use Rattle.std.proofs.lemmas.Bool.{true≢false}
 use Rattle.network.specs.Walk.{Map, Walk, met, In, Distinct}
 use Rattle.search.specs.Record.{parent_of, arc_of}
@@ -10,6 +12,7 @@ use Rattle.search.specs.Reading.{Reading}
 use Rattle.search.specs.declared.reach.Parent.{Parent}
 use Rattle.search.specs.declared.reach.Parent.TheVariants.{Start, Along}
 
+-- a step that is reached by no arc is the start
 pub is_start : (p : Option Parent) → is_some p ≡ true → arc_of p ≡ None → p ≡ Some Start
 is_start None k none = absurd (true≢false (sym k))
 is_start (Some Start) k none = refl
@@ -20,17 +23,11 @@ is_along None k e = cc
 is_along (Some Start) k e = cc
 is_along (Some (Along j)) k e = cc
 
--- a table of 1,024 entries, of which the last ones are written, has a place left before them
-pub place_left : (table : List ℕ) (p : ℕ) → length table ≡ 1024 → length (drop p table) < 1024 → 1 ≤ p
-place_left table p l few = omega (arith, length-drop p table)
+-- a list over which its reverse is written
+pub turned : (xs : List ℕ) → refill (length xs) xs (reverse xs) ≡ reverse xs
+turned xs = grind (arith, common_steps, length-reverse)
 
--- and one more entry there stands first
-pub written : (table : List ℕ) (p k : ℕ) → p ≤ 1024 → length table ≡ 1024 → 1 ≤ p → drop (p - 1) (set table (p - 1) k) ≡ k ∷ drop p table
-written table p k high l low =
-    let e : p - 1 + 1 ≡ p = omega arith in
-    drop-set table (p - 1) k (omega arith) ∙ ap (λ j. k ∷ drop j table) e
-
-module _ (M : Map ℕ) (s : ℕ) (parents : List (Option Parent)) (S : LeadsBack M s parents) (g : ℕ) where
+module _ {M : Map ℕ} {s : ℕ} {parents : List (Option Parent)} (S : LeadsBack M s parents) (g : ℕ) where
   -- no arc is read yet
   pub at_goal : Known parents g → Reading M parents S.distance g g []
   at_goal kg = record {
@@ -45,12 +42,12 @@ module _ (M : Map ℕ) (s : ℕ) (parents : List (Option Parent)) (S : LeadsBack
     distances = omega arith;
   }
 
-  module _ (step : ℕ) (w : List ℕ) (R : Reading M parents S.distance g step w) where
+  module _ {step : ℕ} {w : List ℕ} (R : Reading M parents S.distance g step w) where
     -- its arcs are few enough for a table of 1,024
     pub few : length w < 1024
     few = omega (arith, R.distances, S.short g R.goal_known)
 
-    module _ (k : ℕ) (e : parent_of parents step ≡ Some (Along k)) where
+    module _ {k : ℕ} (e : parent_of parents step ≡ Some (Along k)) where
       says : Says M s parents S.distance step (Some (Along k))
       says = subst (Says M s parents S.distance step) e (S.says step)
 

@@ -1,64 +1,35 @@
 -- The index, with one arc more at its front.
-use Rattle.std.proofs.Common.{◌≡◌, ℕ, ◌+◌, ◌-◌, ◌<◌, ◌≤◌, List, length, get_or, set, replicate, sym, ap, ◌∙◌, subst, inl, inr, arith}
-use Rattle.std.proofs.lemmas.List.{get_or-set_same, get_or-set_other, length-set, get_or-replicate, length-replicate}
-use Rattle.std.proofs.lemmas.Bool.{cases_eq}
+use Rattle.std.proofs.Common.{◌≡◌, ℕ, ◌+◌, ◌-◌, ◌<◌, ◌≤◌, Option, Some, None, IfSome, unwrap_or, List, get_or, set, replicate, arith}
+use Rattle.std.proofs.lemmas.List.{get_or-replicate, length-replicate}
+use Rattle.std.proofs.lemmas.Grind.{common_steps}
 use Rattle.network.specs.Walk.{Map}
 use Rattle.search.specs.Inside.{Step}
-use Rattle.search.specs.Index.{Next, Indexed}
+use Rattle.search.specs.Index.{Next, arc_in, Indexed}
+
+-- what the next arc is
+pub leaves : (M : Map ℕ) (arcs u i : ℕ) (r : Option ℕ) → Next M arcs u i r → IfSome r (λ k. (k < arcs) × (M.from k ≡ u))
+leaves M arcs u i None x = tt
+leaves M arcs u i (Some k) x = (x.1, x.2)
+
+pub within : (M : Map ℕ) (arcs u i : ℕ) (r : Option ℕ) → i ≤ arcs → Next M arcs u i r → (i ≤ unwrap_or r arcs) × (unwrap_or r arcs ≤ arcs)
+within M arcs u i None le x = (le, omega arith)
+within M arcs u i (Some k) le x = (x.0, omega arith)
+
+pub after : {M : Map ℕ} {arcs : ℕ} {first next : List ℕ} → Indexed M arcs first next 0 → (u k : ℕ) → k < arcs → M.from k ≡ u → Step 1024 u
+    → Next M arcs u (k + 1) (arc_in (get_or next k 0))
+after X u k ka e st = rw e at (X.follows k (omega arith) ka (rw e st))
 
 module _ (M : Map ℕ) (arcs : ℕ) where
-  -- arc i does not leave u
-  earlier : (u i r : ℕ) → (M.from i ≡ u → ⊥) → Next M arcs u (i + 1) r → Next M arcs u i r
-  earlier u i r ne x = record {
-    low = omega (arith, x.low);
-    high = x.high;
-    skips = λ k ik kr q. elim (cases_eq k i) [
-      | inl e ↦ ne (ap M.from (sym e) ∙ q)
-      | inr d ↦ x.skips k (omega arith) kr q
-    ];
-    leaves = x.leaves;
-  }
-
-  here : (u i : ℕ) → i < arcs → M.from i ≡ u → Next M arcs u i i
-  here u i l e = record { low = omega arith; high = omega arith; skips = λ k ik ki q. absurd (omega arith); leaves = λ _. e }
-
   -- no arc is in the index yet
-  pub unindexed : (n i : ℕ) (first next : List ℕ) → n ≤ 1024 → i ≡ arcs → first ≡ replicate 1024 arcs → next ≡ replicate 8192 0 → Indexed M arcs n first next i
-  unindexed n i first next small ie f x = record {
-    firsts = ap (λ (t : List ℕ). length t) f ∙ length-replicate 1024 arcs;
-    nexts = ap (λ (t : List ℕ). length t) x ∙ length-replicate {A = ℕ} 8192 0;
-    starts = λ u st. rw (f, get_or-replicate 1024 (u - 1) arcs 0 (omega (arith, st.0, st.1))) (record {
-      low = omega arith;
-      high = omega arith;
-      skips = λ k ik ki q. absurd (omega arith);
-      leaves = λ l. absurd (omega arith);
-    });
+  pub unindexed : Indexed M arcs (replicate 1024 65535) (replicate 8192 65535) arcs
+  unindexed = record {
+    firsts = length-replicate {A = ℕ} 1024 65535;
+    nexts = length-replicate {A = ℕ} 8192 65535;
+    starts = λ u st. rw (get_or-replicate {A = ℕ} 1024 (u - 1) 65535 0 (omega (arith, st.0, st.1))) (λ k ik ka. absurd (omega arith));
     follows = λ k ik ka st. absurd (omega arith);
   }
 
-  module _ (n i : ℕ) (first next : List ℕ) (small : n ≤ 1024) (limit : arcs ≤ 8192) (ia : i < arcs) (X : Indexed M arcs n first next (i + 1)) where
-    -- arc i leaves no step
-    pub unlinked : (Step n (M.from i) → ⊥) → Indexed M arcs n first next i
-    unlinked out = record {
-      firsts = X.firsts;
-      nexts = X.nexts;
-      starts = λ u st. earlier u i (get_or first (u - 1) 0) (λ e. out (subst (Step n) (sym e) st)) (X.starts u st);
-      follows = λ k ik ka st. X.follows k (elim (cases_eq k i) [
-        | inl e ↦ absurd (out (subst (λ x. Step n (M.from x)) e st))
-        | inr d ↦ omega arith
-      ]) ka st;
-    }
-
-    pub linked : (u : ℕ) → u ≡ M.from i → Step n u → Indexed M arcs n (set first (u - 1) i) (set next i (get_or first (u - 1) 0)) i
-    linked u ue su = record {
-      firsts = length-set first (u - 1) i ∙ X.firsts;
-      nexts = length-set next i (get_or first (u - 1) 0) ∙ X.nexts;
-      starts = λ v sv. elim (cases_eq v u) [
-        | inl e ↦ rw (e, get_or-set_same first (u - 1) i 0 (omega (arith, su.0, su.1, X.firsts))) (here u i ia (sym ue))
-        | inr ne ↦ rw (get_or-set_other first (u - 1) (v - 1) i 0 (λ e. ne (omega (arith, su.0, sv.0)))) (earlier v i (get_or first (v - 1) 0) (λ e. ne (sym e ∙ sym ue)) (X.starts v sv))
-      ];
-      follows = λ k ik ka sk. elim (cases_eq k i) [
-        | inl e ↦ rw (e, get_or-set_same next i (get_or first (u - 1) 0) 0 (omega (arith, X.nexts)), ← ue) (X.starts u su)
-        | inr d ↦ rw (get_or-set_other next i k (get_or first (u - 1) 0) 0 d) (X.follows k (omega arith) ka sk)
-      ];
-    }
+  -- arc i, which leaves u, comes to the front
+  pub linked : {i : ℕ} {first next : List ℕ} → Indexed M arcs first next (i + 1) → arcs ≤ 8192 → i < arcs → (u : ℕ) → u ≡ M.from i → Step 1024 u
+      → Indexed M arcs (set first (u - 1) i) (set next i (get_or first (u - 1) 0)) i
+  linked X limit ia u ue su = grind (arith, common_steps)

@@ -1,6 +1,7 @@
 -- What the parents tell, while the search goes on and when it ends.
-use Rattle.std.proofs.Common.{◌≡◌, ℕ, zero, suc, ◌+◌, ◌<◌, ◌≤◌, true, ◌↔◌, Option, Some, None, is_some, List, [], ◌∷◌, ◌++◌, length, get_or, sym, ap, ◌∙◌, subst, inl, inr, arith}
+use Rattle.std.proofs.Common.{◌≡◌, ℕ, zero, suc, ◌+◌, ◌<◌, ◌≤◌, true, ◌↔◌, Option, Some, None, is_some, List, [], ◌∷◌, ◌++◌, length, slice_get, refl, sym, ap, ◌∙◌, subst, inl, inr, arith}
 use Rattle.std.proofs.lemmas.Bool.{cases_lt, true≢false}
+use Rattle.std.proofs.lemmas.Option.{slice_get_within, gets}
 use Rattle.network.specs.Walk.{Map, Walk, Leads}
 use Rattle.network.proofs.Walks.{walk_push}
 use Rattle.search.specs.Record.{parent_of}
@@ -9,37 +10,38 @@ use Rattle.search.specs.declared.reach.Parent.{Parent}
 use Rattle.search.specs.declared.reach.Parent.TheVariants.{Start, Along}
 use Rattle.search.proofs.Turns.{filled}
 
-module _ (M : Map ℕ) (n s : ℕ) (parents : List (Option Parent)) (queue : List ℕ) (count h b : ℕ) (P : Progress M n s parents queue count h b) where
+past : (queue : List ℕ) (h : ℕ) → slice_get queue h ≡ None → length queue ≤ h
+past queue h e = grind (arith, gets)
+
+module _ {M : Map ℕ} {s : ℕ} {parents : List (Option Parent)} {queue : List ℕ} {h b : ℕ} (P : Progress M s parents queue h b) where
   -- a walk of at most m arcs from the start leads to a step that is reached, where all nearer than m are done
-  arrives : (m : ℕ) → ((i : ℕ) → i < count → P.state.distance (get_or queue i 0) < m → i < h)
+  arrives : (m : ℕ) → ((i u : ℕ) → slice_get queue i ≡ Some u → P.state.distance u < m → i < h)
       → (u : ℕ) (w : List ℕ) (v : ℕ) → Walk M u w v → Known parents u → P.state.distance u + length w ≤ m
       → Known parents v × (P.state.distance v ≤ P.state.distance u + length w)
   arrives m all u [] v e ku l = rw (sym e) (ku, omega arith)
   arrives m all u (k ∷ w) v (pk, from, rest) ku l =
       let f = P.state.found u ku in
-      let i = all f.0 f.1 (omega (arith, ap P.state.distance f.2)) in
-      let seen = P.done f.0 k i pk (from ∙ sym f.2) in
+      let seen = P.done f.0 k (all f.0 u f.1 (omega arith)) pk (f.1 ∙ ap Some (sym from)) in
       let e = ap P.state.distance from in
       let r = arrives m all (M.to k) w v rest seen.0 (omega (arith, seen.1)) in
       (r.0, omega (arith, r.1, seen.1))
 
-  -- what is nearer than the step in hand is done
-  earlier : (i : ℕ) → i < count → P.state.distance (get_or queue i 0) < P.state.distance (get_or queue h 0) → i < h
-  earlier i ic l =
-      elim (cases_lt i h) [
-        | inl lt ↦ lt
-        | inr g ↦ absurd (omega (arith, P.state.order h i g ic))
-      ]
-
   least : (v : ℕ) → Known parents v → (w : List ℕ) → Walk M s w v → P.state.distance v ≤ length w
-  least v kv w x =
-      elim (cases_lt h count) [
-        | inl hc ↦ elim (cases_lt (P.state.distance (get_or queue h 0)) (length w)) [
-          | inl far ↦ (let f = P.state.found v kv in omega (arith, P.ahead hc f.0 f.1, ap P.state.distance f.2))
-          | inr nearer ↦ omega (arith, P.state.start_distance, (arrives (P.state.distance (get_or queue h 0)) earlier s w v x P.state.start_known (omega (arith, P.state.start_distance))).1)
-        ]
-        | inr over ↦ omega (arith, P.state.start_distance, (arrives (length w) (λ i ic l. omega arith) s w v x P.state.start_known (omega (arith, P.state.start_distance))).1)
-      ]
+  least v kv w x = by (slice_get queue h) refl
+    where
+      from_start : (m : ℕ) → ((i u : ℕ) → slice_get queue i ≡ Some u → P.state.distance u < m → i < h) → length w ≤ m → P.state.distance v ≤ length w
+      from_start m all le = omega (arith, P.state.start_distance, (arrives m all s w v x P.state.start_known (omega (arith, P.state.start_distance))).1)
+
+      by : (o : Option ℕ) → slice_get queue h ≡ o → P.state.distance v ≤ length w
+      by None none = from_start (length w) (λ i u e l. omega (arith, slice_get_within queue i u e, past queue h none)) (omega arith)
+      by (Some y) here =
+          elim (cases_lt (P.state.distance y) (length w)) [
+            | inl far ↦ omega (arith, P.ahead y v here kv)
+            | inr nearer ↦ from_start (P.state.distance y) (λ i u e l. elim (cases_lt i h) [
+              | inl lt ↦ lt
+              | inr g ↦ absurd (omega (arith, P.state.order h i y u g here e))
+            ]) nearer
+          ]
 
   pub searched : LeadsBack M s parents
   searched = record {
@@ -47,14 +49,14 @@ module _ (M : Map ℕ) (n s : ℕ) (parents : List (Option Parent)) (queue : Lis
     start_distance = P.state.start_distance;
     says = P.state.says;
     least = least;
-    short = λ v kv. (let f = P.state.found v kv in omega (arith, f.1, P.state.near f.0 f.1, ap P.state.distance f.2, filled M n s parents queue count h b P, P.state.small));
+    short = λ v kv. (let f = P.state.found v kv in omega (arith, P.state.near f.0 v f.1, slice_get_within queue f.0 v f.1, filled P.state));
   }
 
   -- the queue is done
-  pub whole : count ≤ h → (v : ℕ) → Leads M s v → Known parents v
-  whole over v (w, x) = (arrives (length w) (λ i ic l. omega arith) s w v x P.state.start_known (omega (arith, P.state.start_distance))).0
+  pub whole : slice_get queue h ≡ None → (v : ℕ) → Leads M s v → Known parents v
+  whole none v (w, x) = (arrives (length w) (λ i u e l. omega (arith, slice_get_within queue i u e, past queue h none)) s w v x P.state.start_known (omega (arith, P.state.start_distance))).0
 
-module _ (M : Map ℕ) (s : ℕ) (parents : List (Option Parent)) (S : LeadsBack M s parents) where
+module _ {M : Map ℕ} {s : ℕ} {parents : List (Option Parent)} (S : LeadsBack M s parents) where
   sound_within : (m v : ℕ) → S.distance v < m → Known parents v → Leads M s v
   sound_within zero v l kv = absurd (omega arith)
   sound_within (suc m) v l kv = by (parent_of parents v) kv (S.says v) (λ u d k. sound_within m u d k)

@@ -1,20 +1,26 @@
 -- The table of parents: how it is read, and one entry written.
-use Rattle.std.proofs.Common.{◌≡◌, ℕ, zero, suc, ◌+◌, ◌-◌, ◌<◌, ◌≤◌, true, false, cond, ◌≢◌, Option, Some, None, is_some, List, [], ◌∷◌, length, get_or, set, replicate, sym, refl, ap, ◌∙◌, inl, inr, arith}
+use Rattle.std.proofs.Common.{◌≡◌, ℕ, zero, suc, ◌+◌, ◌-◌, ◌<◌, ◌≤◌, true, false, cond, ◌≢◌, Option, None, is_some, count_by, List, length, get_or, set, replicate, sym, refl, ap, ◌∙◌, inl, inr, arith}
 use Rattle.std.proofs.lemmas.List.{get_or-set_same, get_or-set_other, get_or-replicate, length-replicate, get_or_past}
-use Rattle.std.proofs.lemmas.List.Sums.{sum_by-set, sum_by-cons}
+use Rattle.std.proofs.lemmas.List.Sums.{sum_by-set}
 use Rattle.std.proofs.lemmas.List.Folds.{sum_by-replicate}
-use Rattle.std.proofs.lemmas.Bool.{cases_lt}
+use Rattle.std.proofs.lemmas.Bool.{true≢false, cases_lt}
+use Rattle.search.specs.Inside.{Step}
 use Rattle.search.specs.Record.{parent_of}
-use Rattle.search.specs.Progress.{Known, how_many_known}
+use Rattle.search.specs.Progress.{Known}
 use Rattle.search.specs.declared.reach.Parent.{Parent}
 
 pub entry_of : (ps : List (Option Parent)) (v : ℕ) → 1 ≤ v → get_or ps (v - 1) None ≡ parent_of ps v
 entry_of ps zero l = absurd (omega arith)
 entry_of ps (suc i) l = let e : suc i - 1 ≡ i = omega arith in ap (λ j. get_or ps j None) e
 
-pub past_table : (ps : List (Option Parent)) (v : ℕ) → length ps < v → parent_of ps v ≡ None
-past_table ps zero l = absurd (omega arith)
-past_table ps (suc i) l = get_or_past ps i None (omega arith)
+-- only what has an entry is reached
+pub known_step : (ps : List (Option Parent)) (v : ℕ) → Known ps v → Step (length ps) v
+known_step ps zero k = absurd (true≢false (sym k))
+known_step ps (suc i) k =
+    elim (cases_lt i (length ps)) [
+      | inl l ↦ (omega arith, omega arith)
+      | inr g ↦ absurd (true≢false (sym k ∙ ap is_some (get_or_past ps i None g)))
+    ]
 
 pub parent_same : (ps : List (Option Parent)) (v : ℕ) (p : Option Parent) → 1 ≤ v → v ≤ length ps → parent_of (set ps (v - 1) p) v ≡ p
 parent_same ps v p l h = sym (entry_of (set ps (v - 1) p) v l) ∙ get_or-set_same ps (v - 1) p None (omega arith)
@@ -31,22 +37,11 @@ none_known (suc i) =
       | inr g ↦ get_or_past (replicate 1024 None) i None (omega (arith, length-replicate {A = Option Parent} 1024 None))
     ]
 
-pub count_none : (n : ℕ) → how_many_known (replicate n None) ≡ 0
+pub count_none : (n : ℕ) → count_by is_some (replicate {A = Option Parent} n None) ≡ 0
 count_none n = omega (arith, sum_by-replicate (λ (p : Option Parent). cond (is_some p) 1 0) n None)
 
-pub count_set : (ps : List (Option Parent)) (i : ℕ) (p : Option Parent) → i < length ps → is_some (get_or ps i None) ≡ false → is_some p ≡ true → how_many_known (set ps i p) ≡ how_many_known ps + 1
+pub count_set : (ps : List (Option Parent)) (i : ℕ) (p : Option Parent) → i < length ps → is_some (get_or ps i None) ≡ false → is_some p ≡ true → count_by is_some (set ps i p) ≡ count_by is_some ps + 1
 count_set ps i p l u k =
     let e = sum_by-set (λ p. cond (is_some p) 1 0) ps i p None l in
     let e' = rw (u, k) at e in
     omega arith
-
--- where only entries below n are reached, at most n are
-count_below : (ps : List (Option Parent)) (n : ℕ) → ((i : ℕ) → is_some (get_or ps i None) ≡ true → i < n) → how_many_known ps ≤ n
-count_below [] n b = omega arith
-count_below (None ∷ ps) n b =
-    omega (arith, count_below ps (n - 1) (λ i k. omega (arith, b (suc i) k)))
-count_below (Some p ∷ ps) n b =
-    omega (arith, sum_by-cons (λ p. cond (is_some p) 1 0) (Some p) ps, b 0 refl, count_below ps (n - 1) (λ i k. omega (arith, b (suc i) k)))
-
-pub count_steps : (ps : List (Option Parent)) (n : ℕ) → ((v : ℕ) → Known ps v → v ≤ n) → how_many_known ps ≤ n
-count_steps ps n b = count_below ps n (λ i k. omega (arith, b (suc i) k))

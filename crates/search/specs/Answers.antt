@@ -2,7 +2,7 @@
 use Rattle.std.specs.Prelude.{◌≡◌, ℕ, ◌≤◌, true, ◌↔◌, List, length, Some, None, Option, Ok, Err, Result}
 use Rattle.network.specs.Walk.{Map, Walk, Leads, Road}
 use Rattle.search.specs.Inside.{Step, inside}
-use Rattle.search.specs.Record.{reached, arcs_of}
+use Rattle.search.specs.Record.{reached}
 use Rattle.search.specs.declared.NoRoad.{NoRoad}
 use Rattle.search.specs.declared.NoRoad.TheVariants.{OutOfRange, Missing}
 use Rattle.search.specs.declared.reach.Reach.{Reach}
@@ -25,7 +25,7 @@ pub record Takes (arcs n s : ℕ) : Type 0 where
 
 -- the question for a road from step s to step g of the steps 1 to n
 abbrev pub Answers : ℕ → Map ℕ → ℕ → ℕ → ℕ → Result Found NoRoad → Type 0
-Answers arcs M n s g (Ok r) = Takes arcs n s × Step n g × ShortestRoad (inside arcs n M) s (arcs_of r) g
+Answers arcs M n s g (Ok r) = Takes arcs n s × Step n g × ShortestRoad (inside arcs n M) s r g
 Answers arcs M n s g (Err OutOfRange) = Takes arcs n s → Step n g → ⊥
 Answers arcs M n s g (Err (Missing r)) = Takes arcs n s × Step n g × (Leads (inside arcs n M) s g → ⊥) × Tells (inside arcs n M) s r
 

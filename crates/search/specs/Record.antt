@@ -1,9 +1,8 @@
 -- How the answers of a search are read.
-use Rattle.std.specs.Prelude.{ℕ, zero, suc, Bool, List, drop, slice_index_or, Option, Some, None, is_some}
+use Rattle.std.specs.Prelude.{ℕ, zero, suc, Bool, List, slice_index_or, Option, Some, None, is_some}
 use Rattle.search.specs.declared.reach.Parent.{Parent}
 use Rattle.search.specs.declared.reach.Parent.TheVariants.{Start, Along}
 use Rattle.search.specs.declared.reach.Reach.{Reach}
-use Rattle.search.specs.declared.road.Road.{Road}
 
 -- how step v was reached, if it was; steps are counted from 1
 abbrev pub parent_of : List (Option Parent) → ℕ → Option Parent
@@ -22,7 +21,3 @@ arc_to parents v = arc_of (parent_of parents v)
 -- the record says that step v was reached
 abbrev pub reached : Reach → ℕ → Bool
 reached r v = is_some (parent_of r.parents v)
-
--- the arcs of a road, by their numbers
-abbrev pub arcs_of : Road → List ℕ
-arcs_of r = drop r.first r.table

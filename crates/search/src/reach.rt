@@ -1,6 +1,8 @@
 ghost use Rattle.std.specs.Prelude.{◌≡◌};
 ghost use Rattle.search.specs.Record.{parent_of, arc_to, reached};
 
+use crate::MOST_STEPS;
+
 // How a step was reached: it is the start, or by an arc (its parent arc).
 #[derive(Clone, Copy)]
 pub(super) enum Parent {
@@ -11,7 +13,7 @@ pub(super) enum Parent {
 // The steps that a search reached; step v has entry v - 1.
 #[derive(Drop)]
 pub struct Reach {
-    pub(super) parents: [Option<Parent>; 1024],
+    pub(super) parents: [Option<Parent>; MOST_STEPS],
 }
 
 impl Reach {

@@ -1,21 +1,28 @@
 ghost use Rattle.std.specs.Prelude.{◌≡◌};
-ghost use Rattle.search.specs.Record.{arcs_of};
 
-// A road: the numbers of its arcs stand in order from place `first` to the end of the table.
+use crate::MOST_STEPS;
+use arrayvec::ArrayVec;
+use std::marker::Model;
+
+// A road: the numbers of its arcs, in the order in which they are passed.
 #[derive(Drop)]
 pub struct Road {
-    pub(super) table: [u16; 1024],
-    pub(super) first: usize,
+    pub(super) arcs: ArrayVec<u16, MOST_STEPS>,
+}
+
+impl Model for Road {
+    ghost use Rattle.std.specs.Prelude.{ℕ, List};
+
+    ghost Value = { List ℕ };
+
+    ghost view = { λ r. r.arcs.items };
 }
 
 impl Road {
-    // The numbers of its arcs, in the order in which they are passed.
+    // The numbers of its arcs.
     pub fn arcs(&self) -> &[u16]
-        ensures { result.now ≡ arcs_of self.now }
+        ensures { result.now ≡ self.now }
     {
-        match self.table.get(self.first..) {
-            Some(arcs) => arcs,
-            None => &[],
-        }
+        &self.arcs
     }
 }
