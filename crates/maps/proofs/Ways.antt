@@ -8,7 +8,7 @@ use Rattle.network.specs.Move.{moves, has_spare}
 use Rattle.network.specs.Arc.{move_of, arc_of, numbered}
 use Rattle.network.proofs.Arcs.{numbered_are_moves, move_steps, fewest_is_shortest}
 use Rattle.search.specs.Answers.{Answers, Explores, ShortestRoad}
-use Rattle.search.specs.Record.{reached, arcs_of}
+use Rattle.search.specs.Record.{reached}
 use Rattle.search.specs.declared.NoRoad.{NoRoad}
 use Rattle.search.specs.declared.NoRoad.TheVariants.{OutOfRange, Missing}
 use Rattle.search.specs.declared.reach.Reach.{Reach}
@@ -19,7 +19,7 @@ use Rattle.maps.specs.Searches.{WithinLimits, OpenWayAnswer, UnlimitedWayAnswer,
 module _ (C : Chart) (may : ℕ → Bool) where
   -- of moves that go forward along the feeds that may be passed
   abbrev MovesAnswer : Result Road NoRoad → Type 0
-  MovesAnswer (Ok r) = ShortestRoad (numbered C may) C.source (arcs_of r) C.sink
+  MovesAnswer (Ok r) = ShortestRoad (numbered C may) C.source r C.sink
   MovesAnswer (Err OutOfRange) = WithinLimits C → ⊥
   MovesAnswer (Err (Missing r)) = (Leads (moves C may) C.source C.sink → ⊥) × ((v : ℕ) → (reached r v ≡ true) ↔ Leads (moves C may) C.source v)
 

@@ -8,7 +8,7 @@ use Rattle.network.specs.Flow.{Closed}
 use Rattle.network.specs.Raise.{OpenWay, Shortest}
 use Rattle.network.specs.Arc.{move_of}
 use Rattle.search.specs.Answers.{Answers, Explores}
-use Rattle.search.specs.Record.{reached, arcs_of}
+use Rattle.search.specs.Record.{reached}
 use Rattle.search.specs.declared.NoRoad.{NoRoad}
 use Rattle.search.specs.declared.NoRoad.TheVariants.{OutOfRange, Missing}
 use Rattle.search.specs.declared.reach.Reach.{Reach}
@@ -20,15 +20,17 @@ pub record WithinLimits (C : Chart) : Type 0 where
   pub few_steps : C.steps ≤ 1024
   pub few_feeds : C.count ≤ 4096
 
+-- A road is seen as the numbers of its arcs
+
 -- an open way with the fewest moves; or the steps that are reached are the early side of the border that closes
 abbrev pub OpenWayAnswer : Chart → Flows → Result Road NoRoad → Type 0
-OpenWayAnswer C f (Ok r) = OpenWay C f (map move_of (arcs_of r)) × Shortest C f (map move_of (arcs_of r))
+OpenWayAnswer C f (Ok r) = OpenWay C f (map move_of r) × Shortest C f (map move_of r)
 OpenWayAnswer C f (Err OutOfRange) = WithinLimits C → ⊥
 OpenWayAnswer C f (Err (Missing r)) = Closed C f (reached r)
 
 -- moves without limit that lead from source to sink; or there are none
 abbrev pub UnlimitedWayAnswer : Chart → Result Road NoRoad → Type 0
-UnlimitedWayAnswer C (Ok r) = Walk (unlimited_moves C) C.source (map move_of (arcs_of r)) C.sink
+UnlimitedWayAnswer C (Ok r) = Walk (unlimited_moves C) C.source (map move_of r) C.sink
 UnlimitedWayAnswer C (Err OutOfRange) = WithinLimits C → ⊥
 UnlimitedWayAnswer C (Err (Missing r)) = UnlimitedWay C → ⊥
 
