@@ -18,7 +18,7 @@ use Rattle.maps.specs.Searches.{WithinLimits, OpenWayAnswer, UnlimitedWayAnswer,
 
 module _ (C : Chart) (may : ℕ → Bool) where
   -- of moves that go forward along the feeds that may be passed
-  MovesAnswer : Result Road NoRoad → Type 0
+  abbrev MovesAnswer : Result Road NoRoad → Type 0
   MovesAnswer (Ok r) = ShortestRoad (numbered C may) C.source r C.sink
   MovesAnswer (Err OutOfRange) = WithinLimits C → ⊥
   MovesAnswer (Err (Missing r)) = (Leads (moves C may) C.source C.sink → ⊥) × ((v : ℕ) → (reached r v ≡ true) ↔ Leads (moves C may) C.source v)
@@ -36,7 +36,6 @@ module _ (C : Chart) (may : ℕ → Bool) where
     inward j p = ((numbered_are_moves C may).arcs j p, (move_steps C may fit (move_of j) p).1)
 
     moves_answer : (r : Result Road NoRoad) → Answers (2 * C.count) (numbered C may) C.steps C.source C.sink r → MovesAnswer r
-    unfolding MovesAnswer
     moves_answer (Ok r) (takes, goal, road) = shortest_same (2 * C.count) C.steps (numbered C may) inward C.source _ C.sink road
     moves_answer (Err OutOfRange) h = λ l. h (record { few_arcs = omega (arith, l.few_feeds); few_steps = l.few_steps; start = fit.source_step }) fit.sink_step
     moves_answer (Err (Missing r)) (takes, goal, none, tells) =
@@ -48,7 +47,6 @@ module _ (C : Chart) (may : ℕ → Bool) where
 
 module _ (C : Chart) where
   open_way_answer : (f : Flows) (r : Result Road NoRoad) → MovesAnswer C (has_spare C f) r → OpenWayAnswer C f r
-  unfolding MovesAnswer
   open_way_answer f (Ok r) s = fewest_is_shortest C f _ s.road s.fewest
   open_way_answer f (Err OutOfRange) h = h
   open_way_answer f (Err (Missing r)) (none, tells) = record { sink_apart = none; early_reached = λ v st. tells v }
@@ -57,7 +55,6 @@ module _ (C : Chart) where
   search_open_way f r h = record { answer = h; fit = λ fit. open_way_answer f r (moves_answer C (has_spare C f) fit r h) }
 
   unlimited_way_answer : (r : Result Road NoRoad) → MovesAnswer C C.barred r → UnlimitedWayAnswer C r
-  unfolding MovesAnswer
   unlimited_way_answer (Ok r) s = (numbered_are_moves C C.barred).to_moves C.source _ C.sink s.road.0
   unlimited_way_answer (Err OutOfRange) h = h
   unlimited_way_answer (Err (Missing r)) (none, tells) = none

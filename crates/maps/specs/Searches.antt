@@ -20,6 +20,8 @@ pub record WithinLimits (C : Chart) : Type 0 where
   pub few_steps : C.steps ≤ 1024
   pub few_feeds : C.count ≤ 4096
 
+-- A road is seen as the numbers of its arcs
+
 -- an open way with the fewest moves; or the steps that are reached are the early side of the border that closes
 abbrev pub OpenWayAnswer : Chart → Flows → Result Road NoRoad → Type 0
 OpenWayAnswer C f (Ok r) = OpenWay C f (map move_of r) × Shortest C f (map move_of r)

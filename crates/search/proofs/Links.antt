@@ -1,6 +1,7 @@
 -- The index, with one arc more at its front.
-use Rattle.std.proofs.Common.{◌≡◌, ℕ, ◌+◌, ◌-◌, ◌<◌, ◌≤◌, Option, Some, None, IfSome, unwrap_or, List, get_or, replicate, arith}
+use Rattle.std.proofs.Common.{◌≡◌, ℕ, ◌+◌, ◌-◌, ◌<◌, ◌≤◌, Option, Some, None, IfSome, unwrap_or, List, get_or, set, replicate, arith}
 use Rattle.std.proofs.lemmas.List.{get_or-replicate, length-replicate}
+use Rattle.std.proofs.lemmas.Grind.{common_steps}
 use Rattle.network.specs.Walk.{Map}
 use Rattle.search.specs.Inside.{Step}
 use Rattle.search.specs.Index.{Next, arc_in, Indexed}
@@ -27,3 +28,8 @@ module _ (M : Map ℕ) (arcs : ℕ) where
     starts = λ u st. rw (get_or-replicate {A = ℕ} 1024 (u - 1) 65535 0 (omega (arith, st.0, st.1))) (λ k ik ka. absurd (omega arith));
     follows = λ k ik ka st. absurd (omega arith);
   }
+
+  -- arc i, which leaves u, comes to the front
+  pub linked : {i : ℕ} {first next : List ℕ} → Indexed M arcs first next (i + 1) → arcs ≤ 8192 → i < arcs → (u : ℕ) → u ≡ M.from i → Step 1024 u
+      → Indexed M arcs (set first (u - 1) i) (set next i (get_or first (u - 1) 0)) i
+  linked X limit ia u ue su = grind (arith, common_steps)

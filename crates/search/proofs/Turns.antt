@@ -2,7 +2,8 @@
 use Rattle.std.proofs.Common.{◌≡◌, ℕ, zero, suc, ◌+◌, ◌-◌, ◌<◌, ◌≤◌, Bool, true, false, cond, eqb, ◌≢◌, ◌⊎◌, List, [], ◌∷◌, ◌++◌, length, Option, Some, None, is_some, count_by, unwrap_or, slice_get, set, replicate, sym, refl, ap, ◌∙◌, subst, inl, inr, arith}
 use Rattle.std.proofs.lemmas.List.{length-set, length-replicate, length-append}
 use Rattle.std.proofs.lemmas.List.Sums.{count_by-le-length}
-use Rattle.std.proofs.lemmas.Option.{same_Some, slice_get_within}
+use Rattle.std.proofs.lemmas.Option.{same_Some, slice_get_within, gets}
+use Rattle.std.proofs.lemmas.Grind.{common_steps}
 use Rattle.std.proofs.lemmas.Bool.{true≢false, cases_lt, cases_eq, eq-eqb, ne_eqb, cond-true, cond-false}
 use Rattle.network.specs.Walk.{Map}
 use Rattle.search.specs.Inside.{Step}
@@ -31,23 +32,13 @@ put_other d v w x ne = cond-false (eqb w v) x (d w) (ne_eqb w v ne)
 
 -- a queue with v at its end: where its entries stand
 older : (queue : List ℕ) (v i w : ℕ) → slice_get queue i ≡ Some w → slice_get (queue ++ v ∷ []) i ≡ Some w
-older [] v i w e = cc
-older (x ∷ xs) v zero w e = e
-older (x ∷ xs) v (suc i) w e = older xs v i w e
+older queue v i w e = grind (arith, common_steps, gets)
 
 last : (queue : List ℕ) (v : ℕ) → slice_get (queue ++ v ∷ []) (length queue) ≡ Some v
-last [] v = refl
-last (x ∷ xs) v = last xs v
+last queue v = grind (arith, common_steps, gets)
 
 places : (queue : List ℕ) (v i w : ℕ) → slice_get (queue ++ v ∷ []) i ≡ Some w → (slice_get queue i ≡ Some w) ⊎ ((i ≡ length queue) × (w ≡ v))
-places [] v zero w e = inr (refl, cc)
-places [] v (suc i) w e = cc
-places (x ∷ xs) v zero w e = inl e
-places (x ∷ xs) v (suc i) w e =
-    elim (places xs v i w e) [
-      | inl old ↦ inl old
-      | inr new ↦ inr (omega (arith, new.0), new.1)
-    ]
+places queue v i w e = grind (arith, common_steps, gets)
 
 module _ {M : Map ℕ} {s : ℕ} {parents : List (Option Parent)} {queue : List ℕ} {h b : ℕ} (P : Progress M s parents queue h b) where
   -- the arcs from b up to c that leave the step in hand lead to steps that are reached

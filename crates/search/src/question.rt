@@ -18,7 +18,7 @@ pub(super) struct Question<'a, M: Map> {
     arcs: usize,
     steps: usize,
     start: usize,
-    ghost all: { arcs ≡ M.size map.now },
+    ghost all_arcs: { arcs ≡ M.size map.now },
     ghost taken: { Takes arcs steps start },
 }
 

@@ -1,7 +1,7 @@
 use Rattle.std.proofs.Common.{◌+◌, refl, ◌∙◌, arith}
 use Rattle.search.specs.Question.{graph_of}
 use Rattle.search.proofs.Inner.{below}
-use Rattle.search.proofs.Links.{leaves, within, after}
+use Rattle.search.proofs.Links.{leaves, after}
 use Rattle.search.proofs.Turns.{step_in_hand, place_in_hand, skip, turn}
 use Rattle.search.proofs.question.Question.scan.Goals as goal
 
@@ -18,14 +18,6 @@ loop-next-init g c =
       leaves = leaves (graph_of q) q.arcs c.args.step 0 _ first;
       going = skip c.requires.progress q.arcs c.args.step _ c.requires.next first;
     })
-
-pub loop-next-smaller : goal.loop-next-smaller
-loop-next-smaller g c =
-    let q = c.args.self.now in
-    let inv = c.loop-next.invariant in
-    let here = rw c.in-Some.is at inv.leaves in
-    let next = after c.requires.indexed c.args.step c.in-Some.k here.0 here.1 (step_in_hand inv.going _ inv.at) in
-    rw (c.after-next.ensures, c.in-Some.is) (omega (arith, within (graph_of q) q.arcs c.args.step (c.in-Some.k + 1) _ (omega arith) next))
 
 pub loop-next-preserved : goal.loop-next-preserved
 loop-next-preserved g c =
