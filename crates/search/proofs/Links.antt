@@ -13,7 +13,7 @@ leaves M arcs u i (Some k) x = (x.1, x.2)
 
 pub after : {M : Map ℕ} {arcs : ℕ} {first next : List ℕ} → Indexed M arcs first next 0 → (u k : ℕ) → k < arcs → M.from k ≡ u → Step 1024 u
     → Next M arcs u (k + 1) (arc_in (get_or next k 0))
-after X u k ka e st = rw e at (X.follows k (omega arith) ka (rw e st))
+after X u k ka e st = grind arith
 
 module _ (M : Map ℕ) (arcs : ℕ) where
   -- no arc is in the index yet
