@@ -1,5 +1,5 @@
 -- The index, with one arc more at its front.
-use Rattle.std.proofs.Common.{◌≡◌, ℕ, ◌+◌, ◌-◌, ◌<◌, ◌≤◌, Option, Some, None, IfSome, unwrap_or, List, get_or, set, replicate, arith}
+use Rattle.std.proofs.Common.{◌≡◌, ℕ, ◌+◌, ◌-◌, ◌<◌, ◌≤◌, Option, Some, None, IfSome, List, get_or, set, replicate, arith}
 use Rattle.std.proofs.lemmas.List.{get_or-replicate, length-replicate}
 use Rattle.std.proofs.lemmas.Grind.{common_steps}
 use Rattle.network.specs.Walk.{Map}
@@ -11,13 +11,9 @@ pub leaves : (M : Map ℕ) (arcs u i : ℕ) (r : Option ℕ) → Next M arcs u i
 leaves M arcs u i None x = tt
 leaves M arcs u i (Some k) x = (x.1, x.2)
 
-pub within : (M : Map ℕ) (arcs u i : ℕ) (r : Option ℕ) → i ≤ arcs → Next M arcs u i r → (i ≤ unwrap_or r arcs) × (unwrap_or r arcs ≤ arcs)
-within M arcs u i None le x = (le, omega arith)
-within M arcs u i (Some k) le x = (x.0, omega arith)
-
 pub after : {M : Map ℕ} {arcs : ℕ} {first next : List ℕ} → Indexed M arcs first next 0 → (u k : ℕ) → k < arcs → M.from k ≡ u → Step 1024 u
     → Next M arcs u (k + 1) (arc_in (get_or next k 0))
-after X u k ka e st = rw e at (X.follows k (omega arith) ka (rw e st))
+after X u k ka e st = grind arith
 
 module _ (M : Map ℕ) (arcs : ℕ) where
   -- no arc is in the index yet

@@ -1,9 +1,10 @@
 -- The table of parents: how it is read, and one entry written.
-use Rattle.std.proofs.Common.{◌≡◌, ℕ, zero, suc, ◌+◌, ◌-◌, ◌<◌, ◌≤◌, true, false, cond, ◌≢◌, Option, None, is_some, count_by, List, length, get_or, set, replicate, sym, refl, ap, ◌∙◌, inl, inr, arith}
-use Rattle.std.proofs.lemmas.List.{get_or-set_same, get_or-set_other, get_or-replicate, length-replicate, get_or_past}
+use Rattle.std.proofs.Common.{◌≡◌, ℕ, zero, suc, ◌+◌, ◌-◌, ◌<◌, ◌≤◌, true, false, cond, ◌≢◌, Option, None, is_some, count_by, List, length, get_or, set, replicate, refl, ap, inl, inr, arith}
+use Rattle.std.proofs.lemmas.List.{get_or-replicate, length-replicate, get_or_past}
+use Rattle.std.proofs.lemmas.Grind.{common_steps}
 use Rattle.std.proofs.lemmas.List.Sums.{sum_by-set}
 use Rattle.std.proofs.lemmas.List.Folds.{sum_by-replicate}
-use Rattle.std.proofs.lemmas.Bool.{true≢false, cases_lt}
+use Rattle.std.proofs.lemmas.Bool.{cases_lt}
 use Rattle.search.specs.Inside.{Step}
 use Rattle.search.specs.Record.{parent_of}
 use Rattle.search.specs.Progress.{Known}
@@ -15,19 +16,13 @@ entry_of ps (suc i) l = let e : suc i - 1 ≡ i = omega arith in ap (λ j. get_o
 
 -- only what has an entry is reached
 pub known_step : (ps : List (Option Parent)) (v : ℕ) → Known ps v → Step (length ps) v
-known_step ps zero k = absurd (true≢false (sym k))
-known_step ps (suc i) k =
-    elim (cases_lt i (length ps)) [
-      | inl l ↦ (omega arith, omega arith)
-      | inr g ↦ absurd (true≢false (sym k ∙ ap is_some (get_or_past ps i None g)))
-    ]
+known_step ps v k = grind (arith, common_steps)
 
 pub parent_same : (ps : List (Option Parent)) (v : ℕ) (p : Option Parent) → 1 ≤ v → v ≤ length ps → parent_of (set ps (v - 1) p) v ≡ p
-parent_same ps v p l h = sym (entry_of (set ps (v - 1) p) v l) ∙ get_or-set_same ps (v - 1) p None (omega arith)
+parent_same ps v p l h = grind (arith, common_steps, entry_of)
 
 pub parent_other : (ps : List (Option Parent)) (v w : ℕ) (p : Option Parent) → 1 ≤ v → w ≢ v → parent_of (set ps (v - 1) p) w ≡ parent_of ps w
-parent_other ps v zero p l ne = refl
-parent_other ps v (suc i) p l ne = get_or-set_other ps (v - 1) i p None (λ e. ne (omega arith))
+parent_other ps v w p l ne = grind (arith, common_steps)
 
 pub none_known : (v : ℕ) → parent_of (replicate 1024 None) v ≡ None
 none_known zero = refl

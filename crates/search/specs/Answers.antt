@@ -1,16 +1,16 @@
 -- What a search answers.
 use Rattle.std.specs.Prelude.{◌≡◌, ℕ, ◌≤◌, true, ◌↔◌, List, length, Some, None, Option, Ok, Err, Result}
-use Rattle.network.specs.Walk.{Map, Walk, Leads, Road}
+use Rattle.network.specs.Walk.{Map, Walk, Leads, Road as IsRoad}
 use Rattle.search.specs.Inside.{Step, inside}
 use Rattle.search.specs.Record.{reached}
 use Rattle.search.specs.declared.NoRoad.{NoRoad}
 use Rattle.search.specs.declared.NoRoad.TheVariants.{OutOfRange, Missing}
 use Rattle.search.specs.declared.reach.Reach.{Reach}
-use Rattle.search.specs.declared.road.Road.{Road as Found}
+use Rattle.search.specs.declared.road.Road.{Road}
 
 -- the arcs lead from a to b and meet no step twice, and no walk from a to b has fewer (a shortest path)
 pub record ShortestRoad (M : Map ℕ) (a : ℕ) (w : List ℕ) (b : ℕ) : Type 0 where
-  pub road : Road M a w b
+  pub road : IsRoad M a w b
   pub fewest : (u : List ℕ) → Walk M a u b → length w ≤ length u
 
 -- the record tells exactly the steps to which passable arcs lead from a
@@ -24,7 +24,7 @@ pub record Takes (arcs n s : ℕ) : Type 0 where
   pub start : Step n s
 
 -- the question for a road from step s to step g of the steps 1 to n
-abbrev pub Answers : ℕ → Map ℕ → ℕ → ℕ → ℕ → Result Found NoRoad → Type 0
+abbrev pub Answers : ℕ → Map ℕ → ℕ → ℕ → ℕ → Result Road NoRoad → Type 0
 Answers arcs M n s g (Ok r) = Takes arcs n s × Step n g × ShortestRoad (inside arcs n M) s r g
 Answers arcs M n s g (Err OutOfRange) = Takes arcs n s → Step n g → ⊥
 Answers arcs M n s g (Err (Missing r)) = Takes arcs n s × Step n g × (Leads (inside arcs n M) s g → ⊥) × Tells (inside arcs n M) s r

@@ -20,7 +20,7 @@ const MOST_STEPS: usize = 1_024;
 
 const MOST_ARCS: usize = 8_192;
 
-// Why the question for a road is answered by none.
+// Why no road is answered.
 #[derive(Drop)]
 pub enum NoRoad {
     // Too many steps or arcs, or start or goal is no step.
