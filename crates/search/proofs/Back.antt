@@ -7,11 +7,13 @@ use Rattle.search.specs.Reading.{Reading}
 use Rattle.search.specs.declared.reach.Parent.{Parent}
 use Rattle.search.specs.declared.reach.Parent.TheVariants.{Start, Along}
 
+-- how a step that is reached by arc k was reached
 pub is_along : (p : Option Parent) (k : ℕ) → arc_of p ≡ Some k → p ≡ Some (Along k)
 is_along None k e = cc
 is_along (Some Start) k e = cc
 is_along (Some (Along j)) k e = cc
 
+-- with one arc more
 pub back : {M : Map ℕ} {s : ℕ} {parents : List (Option Parent)} (S : LeadsBack M s parents) (g : ℕ) {step : ℕ} {w : List ℕ} → Reading M parents S.distance g step w
     → {k : ℕ} → parent_of parents step ≡ Some (Along k) → Reading M parents S.distance g (M.from k) (k ∷ w)
 back {M} {s} {parents} S g {step} {w} R {k} e =

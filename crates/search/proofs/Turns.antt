@@ -157,11 +157,7 @@ module _ {M : Map ℕ} {s : ℕ} {parents : List (Option Parent)} {queue : List 
         ]
 
     queued' : (i w : ℕ) → slice_get (queue ++ v ∷ []) i ≡ Some w → Known parents' w
-    queued' i w e =
-        elim (places queue v i w e) [
-          | inl old ↦ kept w (P.state.queued i w old)
-          | inr new ↦ subst (Known parents') (sym new.1) new_known
-        ]
+    queued' i w e = grind (arith, places, kept, new_known, P.state.queued)
 
     found' : (w : ℕ) → Known parents' w → (i : ℕ) × (slice_get (queue ++ v ∷ []) i ≡ Some w)
     found' w kn =
@@ -171,11 +167,7 @@ module _ {M : Map ℕ} {s : ℕ} {parents : List (Option Parent)} {queue : List 
         ]
 
     near' : (i w : ℕ) → slice_get (queue ++ v ∷ []) i ≡ Some w → distance' w ≤ i
-    near' i w e =
-        elim (places queue v i w e) [
-          | inl old ↦ omega (arith, old_distance w (P.state.queued i w old), P.state.near i w old)
-          | inr new ↦ rw new.1 (omega (arith, new.0, new_distance, within, P.state.near h (M.from b) at))
-        ]
+    near' i w e = grind (arith, places queue v i w e, old_distance, new_distance, within, P.state.near, P.state.queued)
 
     order' : (i j x y : ℕ) → i ≤ j → slice_get (queue ++ v ∷ []) i ≡ Some x → slice_get (queue ++ v ∷ []) j ≡ Some y → distance' x ≤ distance' y
     order' i j x y ij ex ey =

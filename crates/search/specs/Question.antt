@@ -11,6 +11,7 @@ use Rattle.search.specs.declared.question.Question.{Question}
 use Rattle.search.specs.declared.reach.Reach.{Reach}
 use Rattle.search.specs.declared.work.Work.{Work}
 
+-- a question of a map of type A, B being its trait's members
 module _ {A : _} {B : _} (q : Question A B) where
   -- the arcs that it takes
   abbrev pub graph_of : Map ℕ
