@@ -34,7 +34,8 @@ impl Size {
         }
     }
 
-    // The size nearest to a number of MiB.
+    // The size nearest to a number of MiB. One number is held between two, where the ranked kind holds a rank and a size: two
+    // calls of `clamp`, and a trait over them would be longer than both.
     fn held(mib: i64) -> Size
         ensures means { size_means result ≡ nearest (reach_of size_largest) mib }
         ensures named { size_named result ≡ true }
@@ -45,7 +46,8 @@ impl Size {
     }
 }
 
-// Sizes compare by the MiB that they are read as; a derive would compare the fields.
+// Sizes compare by the MiB that they are read as; a derive would compare the fields. The ranked kind has such impls of its
+// own: one for all kinds would be an impl of another crate's trait for a type parameter, which is not allowed.
 impl Ord for Size {
     ghost cmp = { on size_means int_cmp };
 

@@ -6,7 +6,8 @@ use price::kind::Price;
 use search::map::{Ends, Map};
 use sheets::Feed;
 
-// Feeds, each passed from its start to its end. Arc k is the feed at place k of the sheet; beyond the last, both ends are 0.
+// Feeds, each passed from its start to its end. Arc k is the feed at place k of the sheet. Beyond the last both ends are 0, as
+// in the chart, whose functions are total; with an `Option` each caller would have a case that no arc has.
 #[derive(Drop)]
 pub struct FeedsForward<'a, P> {
     pub feeds: &'a [Feed<P>],

@@ -38,17 +38,10 @@ fn flow_at<P: Price>(flows: &[P], k: usize) -> P
     flows.get(k).copied().unwrap_or(P::zero())
 }
 
-// Whether a price leaves room above a flow.
-fn has_room<P: Price>(flow: P, price: P) -> bool
-    ensures { Decides result (P.kind.means flow <ℤ P.kind.means price) }
-{
-    flow < price
-}
-
 impl<P: Price> Rule<P> for Open<'_, P> {
     ghost may = { λ rule k barred price. barred || int_lt (flows_of P.Price.kind rule.flows.now k) price };
 
     fn may_pass(&self, k: usize, barred: bool, price: P) -> bool {
-        barred || has_room(flow_at(self.flows, k), price)
+        barred || flow_at(self.flows, k) < price
     }
 }

@@ -5,7 +5,8 @@ ghost use Rattle.price.specs.Kind.{Between, PriceKind, Same, Sound, flow_limit, 
 // A kind of prices (capacities). Each of its totals means one whole number within the kind's reach,
 // and totals compare as their meanings do.
 pub trait Price: Copy + Ord {
-    // What the totals mean, the largest price, and which totals are named and which are prices.
+    // What the totals mean, the largest price, and which totals are named and which are prices. That a total is named stands
+    // in the clauses and not in its type, since a sheet may hold any content, and each is taken.
     ghost kind: { PriceKind Self };
 
     // The price that means 0.
@@ -41,14 +42,14 @@ pub trait Price: Copy + Ord {
     ghost order: { (x y : Self) → Self.Ord.cmp x y ≡ int_cmp (kind.means x) (kind.means y) };
 }
 
-// Whether two totals mean the same number.
+// Whether two totals mean the same number: `==`, with its meaning as a clause in place of the law.
 pub fn is_same<P: Price>(a: P, b: P) -> bool
     ensures { Decides result (Same P.kind a b) }
 {
     a == b
 }
 
-// Whether a total means a number below 0.
+// Whether a total means a number below 0: `<`, with its meaning as a clause.
 pub fn is_negative<P: Price>(total: P) -> bool
     ensures { Decides result (P.kind.means total <ℤ pos 0) }
 {
