@@ -33,7 +33,9 @@ pub enum NoRoad {
 pub fn search<M: Map>(map: &M, steps: usize, start: usize, goal: usize) -> Result<Road, NoRoad>
     ensures { Answers (M.size map.now) (M.graph map.now) steps start goal result }
 {
-    let question = Question::new(map, steps, start).ok_or(NoRoad::OutOfRange)?;
+    let Some(question) = Question::new(map, steps, start) else {
+        return Err(NoRoad::OutOfRange);
+    };
     if !question.is_step(goal) {
         return Err(NoRoad::OutOfRange);
     }

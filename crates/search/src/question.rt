@@ -64,17 +64,6 @@ impl<'a, M: Map> Question<'a, M> {
         }
     }
 
-    // One pass over the arcs, from the last to the first.
-    fn index(&self) -> Index
-        ensures { IndexedFrom self.now result 0 }
-    {
-        let mut index = Index::new();
-        for k in (0..self.arcs).rev() {
-            self.link(&mut index, k);
-        }
-        index
-    }
-
     // Whether the search goes along arc k: one may pass it, to a step that was not reached yet.
     fn is_fresh(&self, reach: &Reach, k: usize) -> bool
         requires { k < self.now.arcs }
@@ -120,7 +109,10 @@ impl<'a, M: Map> Question<'a, M> {
         ensures searched { Searched self.now result }
         ensures whole { IfSome goal (λ g. reached result g ≡ false) → Whole self.now result }
     {
-        let index = self.index();
+        let mut index = Index::new();
+        for k in (0..self.arcs).rev() {
+            self.link(&mut index, k);
+        }
         let mut work = Work::new(self.start);
         while let Some(step) = work.next_step() {
             if goal.is_some_and(|goal| work.reach.reaches(goal)) {

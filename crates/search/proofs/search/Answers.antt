@@ -6,7 +6,7 @@ use Rattle.search.proofs.search.Goals as goal
 
 pub returns-else-reaches : goal.returns-else-reaches
 returns-else-reaches g c =
-    let p = rw c.in_ok-question.ensures.ok_part at c.new.ensures in
+    let p = c.in-Some.ensures in
     let none = sym c.if-reaches.ensures in
     let all = c.spread-reach.ensures.whole none in (
       p.takes,

@@ -1,6 +1,9 @@
 use Rattle.std.proofs.Common.{◌-◌}
-use Rattle.search.specs.Question.{Going}
+use Rattle.search.specs.Question.{IndexedFrom, Going}
 use Rattle.search.proofs.question.Question.spread.Given as goal
+
+abbrev pub invariant-loop-k : goal.invariant-loop-k
+invariant-loop-k g l = IndexedFrom l.self l.index l.k
 
 abbrev pub invariant-loop-step : goal.invariant-loop-step
 invariant-loop-step g l = Going l.self l.work 0
