@@ -8,7 +8,8 @@ use crate::{MOST_ARCS, MOST_STEPS};
 const NONE: u16 = u16::MAX;
 
 // The arcs that leave each step, in rising order (adjacency lists): step v has its first at entry v - 1, and each arc has
-// the next one.
+// the next one. Two tables of arc numbers and no list for each step, since a search asks for no memory. Steps and arcs are
+// plain numbers: a type for them would be made and taken apart at each use, as maps and tables hold numbers.
 #[derive(Drop)]
 pub(super) struct Index {
     first: [u16; MOST_STEPS],

@@ -10,7 +10,7 @@ pub(super) enum Parent {
     Along(u16),
 }
 
-// The steps that a search reached; step v has entry v - 1.
+// The steps that a search reached; step v has entry v - 1. A table and no map by step, since a search asks for no memory.
 #[derive(Drop)]
 pub struct Reach {
     pub(super) parents: [Option<Parent>; MOST_STEPS],

@@ -8,7 +8,8 @@ use crate::MOST_STEPS;
 use crate::reach::{Parent, Reach};
 use arrayvec::ArrayVec;
 
-// The steps reached so far, and the queue of them in the order in which they were reached; its first `done` are done.
+// The steps reached so far, and the queue of them in the order in which they were reached; its first `done` are done. That
+// place is counted by hand, since the queue grows while it is gone through, so that no iterator can lend it.
 #[derive(Drop)]
 pub(super) struct Work {
     pub(super) reach: Reach,
