@@ -189,7 +189,7 @@ impl Written for Ranked {
             return None;
         }
         let t = self.read();
-        Some(t.rank as i64 * SIZES as i64 + t.size as i64)
+        Some(i64::from(t.rank) * SIZES as i64 + t.size as i64)
     }
 
     // The quotient of n by 2^44 as rank and the remainder as size, where that is a price.
@@ -198,7 +198,7 @@ impl Written for Ranked {
         ensures value { result ≡ ranked_of_whole n }
     {
         let t = Ranked {
-            rank: (n / SIZES) as i32,
+            rank: (n / SIZES).try_into().ok()?,
             size: n % SIZES,
         };
         t.is_price().then_some(t)

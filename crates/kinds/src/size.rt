@@ -34,8 +34,8 @@ impl Size {
         }
     }
 
-    // The size nearest to a number of MiB. One number is held between two, where the ranked kind holds a rank and a size: two
-    // calls of `clamp`, and a trait over them would be longer than both.
+    // The size nearest to a number of MiB. Here and in `read` one number is compared with two ends, where the ranked kind has
+    // a rank and a size: a trait over both would be longer than they are.
     fn held(mib: i64) -> Size
         ensures means { size_means result ≡ nearest (reach_of size_largest) mib }
         ensures named { size_named result ≡ true }

@@ -4,7 +4,8 @@ ghost use Rattle.lines.specs.Numbers.{number_in};
 // The most digits that a number in a text has.
 const MOST_DIGITS: usize = 15;
 
-// The number that a field of a text writes, or none where it is no number.
+// The number that a field of a text writes, or none where it is no number. By its digits and not by `parse`, which would want
+// a `&str` and take a sign too.
 pub fn read_number(field: &[u8]) -> Option<u64>
     ensures { result ≡ number_in field.now }
 {

@@ -2,8 +2,6 @@ ghost use Rattle.std.specs.Prelude.{◌≡◌, [], MatchOption};
 ghost use Rattle.std.specs.Iterator.{YieldsFirstBy, item_count};
 ghost use Rattle.lines.specs.Split.{FirstLine, lines_of};
 ghost use Rattle.lines.specs.Left.{lines_left};
-ghost use Rattle.std.specs.Prelude.{◌≡◌, [], MatchOption};
-ghost use Rattle.lines.specs.Split.{FirstLine};
 
 use memchr::memchr;
 
@@ -21,7 +19,7 @@ pub fn first_line(text: &[u8]) -> Option<(&[u8], &[u8])>
 }
 
 // The lines of a text in turn, each without its line feed.
-#[derive(Clone, Copy)]
+#[derive(Drop)]
 pub struct Lines<'a> {
     rest: &'a [u8],
 }

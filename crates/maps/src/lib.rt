@@ -59,7 +59,7 @@ impl<P: Price> Chart<'_, P> {
     }
 
     // A shortest open way (augmenting path) at the flows that the sheet holds; where there is none, the steps that open moves
-    // reach from the source.
+    // reach from the source. The flows are no part of the chart: no other search has any.
     pub fn open_way(&self, flows: &[P]) -> Result<Road, NoRoad>
         ensures { SearchOpenWay (chart_meant P.kind self.now) (flows_of P.kind flows.now) result }
     {

@@ -70,7 +70,7 @@ pub fn flow_limit<P: Price>() -> P
     total
 }
 
-// Whether a total lies within the flow limit, on either side of 0.
+// Whether a total lies within the flow limit, on either side of 0. A test and no type of totals within it: sums leave it.
 pub fn is_within_flow_limit<P: Price>(total: P) -> bool
     ensures { Decides result (Between (flow_limit P.kind) (P.kind.means total)) }
 {

@@ -10,7 +10,8 @@ use lines::line::Line;
 use std::error::Error;
 use std::fmt;
 
-// Why a call was refused. In a text `line` is the line at fault, counted from 1; elsewhere it is 0.
+// Why a call was refused. In a text `line` is the line at fault, counted from 1; elsewhere it is 0, the place that the product's
+// rules give such a refusal.
 #[derive(Clone, Copy, Debug, PartialEq, Eq)]
 pub enum Refusal {
     // Fewer than 2 steps, or more than 1,024.
@@ -87,7 +88,7 @@ impl Refusal {
         }
     }
 
-    // The feed, step or line at fault, or 0.
+    // The feed, step or line at fault, or 0, as the product's rules say it.
     pub fn place(self) -> usize
         ensures { result ≡ place_of self }
     {

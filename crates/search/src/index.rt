@@ -4,7 +4,8 @@ ghost use Rattle.search.specs.Index.{arc_in};
 
 use crate::{MOST_ARCS, MOST_STEPS};
 
-// The entry of no arc. With `Option<u16>` in the tables, a search of the largest woven map took 66 µs in place of 55.
+// The entry of no arc. With `Option<u16>` in the tables a search of the largest woven map took 66 µs, and 54 before, when the
+// number of arcs stood for none; with this it takes 55.
 const NONE: u16 = u16::MAX;
 
 // The arcs that leave each step, in rising order (adjacency lists): step v has its first at entry v - 1, and each arc has
@@ -36,6 +37,7 @@ impl Index {
         ensures next { self.new.next ≡ slice_set self.old.next k (slice_index self.old.first (step - 1)) }
     {
         self.next[k] = self.first[step - 1];
+        // loses nothing, since k is below 8,192
         self.first[step - 1] = k as u16;
     }
 

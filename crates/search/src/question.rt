@@ -52,7 +52,7 @@ impl<'a, M: Map> Question<'a, M> {
         (1..=self.steps).contains(&step)
     }
 
-    // Puts arc k into the index, before those above it.
+    // Puts arc k into the index, before those above it. Here and below k is a plain number, as in the index.
     fn link(&self, index: &mut Index, k: usize)
         requires below { k < self.now.arcs }
         requires indexed { IndexedFrom self.now index.old (k + 1) }
@@ -84,6 +84,7 @@ impl<'a, M: Map> Question<'a, M> {
         ensures progress { Going self.now work.new (k + 1) }
     {
         if self.is_fresh(&work.reach, k) {
+            // loses nothing, since k is below 8,192
             work.push(self.map.ends(k).to, Parent::Along(k as u16));
         }
     }

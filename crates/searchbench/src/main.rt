@@ -2,6 +2,7 @@
 // how long a search takes, and how size and time grow.
 #![tactic(auto)]
 
+use anyhow::bail;
 use kinds::size::Size;
 use maps::Chart;
 use search::NoRoad;
@@ -44,6 +45,8 @@ impl Family {
         }
     }
 
+    // Puts the feeds to one step after the other. The family is asked at each: a closure for each family would be as long, and
+    // all four would be alike but for these lines.
     fn fill(self, feeds: &mut Vec<Feed<Size>>, steps: u16) -> anyhow::Result<()> {
         for before in 1..steps {
             let to = before + 1;
@@ -76,13 +79,15 @@ fn put(feeds: &mut Vec<Feed<Size>>, from: u16, to: u16) -> anyhow::Result<()> {
 }
 
 // How many steps open moves reach from the source, where none leads to the sink.
-fn reached(chart: Chart<Size>) -> usize {
-    match chart.open_way(&[]) {
-        Err(NoRoad::Missing(reach)) => (1..=chart.steps)
+fn reached(chart: Chart<Size>) -> anyhow::Result<usize> {
+    let Err(NoRoad::Missing(reach)) = chart.open_way(&[]) else {
+        bail!("a way was found, or the map is too large");
+    };
+    Ok(
+        (1..=chart.steps)
             .filter(|step| reach.reaches(*step))
             .count(),
-        _ => 0,
-    }
+    )
 }
 
 // A map's steps and arcs together, and the nanoseconds that one search of it takes.
@@ -125,7 +130,7 @@ fn show(rt: &HostRuntime, family: Family, timed: bool) -> anyhow::Result<()> {
             bars: &[],
         };
         let arcs = feeds.len().saturating_mul(2);
-        let count = reached(chart);
+        let count = reached(chart)?;
         println!(rt; "{family}: {goal} steps, {arcs} arcs, {count} reached")?;
         if timed {
             let now = time_search(rt, chart)?;

@@ -10,6 +10,13 @@ fn printed<W: Written>(text: &[u8]) -> Line {
     answer_text::<W>(text).unwrap_or_else(|refusal| refusal.line())
 }
 
+// Whether each text is answered by the line beside it.
+fn are_answered<W: Written>(cases: &[(&[u8], &[u8])]) -> bool {
+    cases
+        .iter()
+        .all(|(text, line)| printed::<W>(text).as_bytes() == *line)
+}
+
 #[test]
 fn texts_of_sizes(rt: HostRuntime) {
     let cases: [(&[u8], &[u8]); 15] = [
@@ -29,9 +36,7 @@ fn texts_of_sizes(rt: HostRuntime) {
         (b"\n", b"c refused 16 1\n"),
         (b"+1\n", b"c refused 16 1\n"),
     ];
-    for (text, line) in cases {
-        assert!(rt; printed::<Size>(text).as_bytes() == line);
-    }
+    assert!(rt; are_answered::<Size>(&cases));
 }
 
 #[test]
@@ -45,9 +50,7 @@ fn texts_of_ranked_prices(rt: HostRuntime) {
         // rank 0, size one too large
         (b"4294967296\n", b"c refused 16 1\n"),
     ];
-    for (text, line) in cases {
-        assert!(rt; printed::<Ranked>(text).as_bytes() == line);
-    }
+    assert!(rt; are_answered::<Ranked>(&cases));
 }
 
 #[test]

@@ -15,7 +15,7 @@ fn feed(from: u16, to: u16, size: u64) -> Feed<Ranked> {
     }
 }
 
-// Four steps and five feeds.
+// Four steps and five feeds, those that `road` shows: a crate for them alone would be longer than the five lines.
 fn example() -> [Feed<Ranked>; 5] {
     [
         feed(1, 2, 2),
