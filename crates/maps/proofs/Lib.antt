@@ -1,3 +1,2 @@
-pub mod Numbering
 pub mod Ways
 pub mod Bars

@@ -1,3 +1,4 @@
 pub mod Charts
 pub mod Graphs
+pub mod Moves
 pub mod Searches

@@ -1,6 +1,8 @@
-ghost use Rattle.std.specs.Prelude.{◌≡◌, ◌*◌, ◌%◌, length, ◌==◌, slice_index};
+ghost use Rattle.std.specs.Prelude.{◌≡◌, ◌*◌, length, ◌==◌, slice_index};
+ghost use Rattle.network.specs.Arc.{move_of};
 ghost use Rattle.sheets.specs.Sheets.{feeds_chart};
 ghost use Rattle.maps.specs.Graphs.{ruled_arcs};
+ghost use Rattle.maps.specs.Moves.{move_meant};
 
 use super::feeds_forward::FeedsForward;
 use super::reversed::Reversed;
@@ -9,8 +11,28 @@ use price::kind::Price;
 use search::map::{Ends, Map};
 use sheets::Feed;
 
-// Moves along the feeds of a sheet (arcs of the residual network): arc 2k is along the feed at place k, where the rule
-// lets one pass, and arc 2k + 1 is against it.
+// A move along the feed at a place of the sheet, or against it.
+#[derive(Clone, Copy, Debug, PartialEq, Eq)]
+pub enum Move {
+    Forward(usize),
+    Backward(usize),
+}
+
+// Arc 2k is the move along the feed at place k, and arc 2k + 1 the move against it.
+impl From<usize> for Move {
+    ghost from_gives = { λ arc move. move_meant move ≡ move_of arc };
+
+    fn from(arc: usize) -> Move {
+        let k = arc / 2;
+        if arc % 2 == 0 {
+            Move::Forward(k)
+        } else {
+            Move::Backward(k)
+        }
+    }
+}
+
+// Moves of a sheet by number (arcs of the residual network): along a feed where the rule lets one pass, and against each.
 #[derive(Drop)]
 pub struct Moves<'a, P, R> {
     pub feeds: &'a [Feed<P>],
@@ -18,14 +40,8 @@ pub struct Moves<'a, P, R> {
     pub rule: R,
 }
 
-// Whether a move, by its number, goes against its feed.
-fn is_backward(j: usize) -> bool
-    ensures { result ≡ (j % 2 == 1) }
-{
-    j % 2 == 1
-}
-
-// Whether the feed at place k is barred, which the byte 1 alone says; not where the sheet of bars has no such place.
+// Whether the feed at place k is barred: in the product's sheet format the byte 1 alone says so. A feed past the end of the
+// sheet of bars is not.
 fn is_barred(bars: &[u8], k: usize) -> bool
     ensures { result ≡ (slice_index bars.now k == 1) }
 {
@@ -41,21 +57,24 @@ impl<P: Price, R: Rule<P>> Map for Moves<'_, P, R> {
         self.feeds.len().saturating_mul(2)
     }
 
+    #[tactic(auto, using(sheets::proofs::Entries::from_same, sheets::proofs::Entries::to_same))]
     fn ends(&self, j: usize) -> Ends {
         let forward = FeedsForward { feeds: self.feeds };
-        if is_backward(j) {
-            Reversed { map: forward }.ends(j / 2)
-        } else {
-            forward.ends(j / 2)
+        match Move::from(j) {
+            Move::Forward(k) => forward.ends(k),
+            Move::Backward(k) => Reversed { map: forward }.ends(k),
         }
     }
 
+    #[tactic(auto, using(sheets::proofs::Entries::count_is))]
     fn is_passable(&self, j: usize) -> bool {
-        let k = j / 2;
-        // no `is_some_and`: of a closure that calls a bound's method nothing is known, so its proof did not close
-        let Some(feed) = self.feeds.get(k) else {
-            return false;
-        };
-        is_backward(j) || self.rule.may_pass(k, is_barred(self.bars, k), feed.price)
+        match Move::from(j) {
+            // no `is_some_and`: of a closure that calls a bound's method nothing is known, so its proof did not close
+            Move::Forward(k) => match self.feeds.get(k) {
+                Some(feed) => self.rule.may_pass(k, is_barred(self.bars, k), feed.price),
+                None => false,
+            },
+            Move::Backward(k) => k < self.feeds.len(),
+        }
     }
 }

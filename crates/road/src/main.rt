@@ -4,6 +4,7 @@
 
 use kinds::size::Size;
 use maps::Chart;
+use maps::moves::Move;
 use search::NoRoad;
 use sheets::Feed;
 
@@ -30,9 +31,10 @@ fn show(rt: &HostRuntime, chart: Chart<Size>, flows: &[Size]) -> anyhow::Result<
         Ok(road) => {
             print!(rt; ": way")?;
             for arc in road.arcs() {
-                let sign = if *arc % 2 == 0 { "+" } else { "-" };
-                let number = *arc / 2 + 1;
-                print!(rt; " {sign}{number}")?;
+                match Move::from(usize::from(*arc)) {
+                    Move::Forward(k) => print!(rt; " +{}", k + 1)?,
+                    Move::Backward(k) => print!(rt; " -{}", k + 1)?,
+                }
             }
         }
         Err(NoRoad::Missing(reach)) => {
