@@ -1,11 +1,11 @@
 ghost use Rattle.std.specs.Prelude.{◌≡◌, ◌*◌, length, ◌==◌, slice_index};
 ghost use Rattle.network.specs.Arc.{move_of};
+ghost use Rattle.network.specs.Move.{move_feed};
 ghost use Rattle.sheets.specs.Sheets.{feeds_chart};
 ghost use Rattle.maps.specs.Graphs.{ruled_arcs};
 ghost use Rattle.maps.specs.Moves.{move_meant};
 
 use super::feeds_forward::FeedsForward;
-use super::reversed::Reversed;
 use super::rules::Rule;
 use price::kind::Price;
 use search::map::{Ends, Map};
@@ -23,11 +23,21 @@ impl From<usize> for Move {
     ghost from_gives = { λ arc move. move_meant move ≡ move_of arc };
 
     fn from(arc: usize) -> Move {
-        let k = arc / 2;
         if arc % 2 == 0 {
-            Move::Forward(k)
+            Move::Forward(arc / 2)
         } else {
-            Move::Backward(k)
+            Move::Backward(arc / 2)
+        }
+    }
+}
+
+impl Move {
+    // The place of its feed.
+    fn feed(self) -> usize
+        ensures { result ≡ move_feed (move_meant self) }
+    {
+        match self {
+            Move::Forward(k) | Move::Backward(k) => k,
         }
     }
 }
@@ -59,10 +69,15 @@ impl<P: Price, R: Rule<P>> Map for Moves<'_, P, R> {
 
     #[tactic(auto, using(sheets::proofs::Entries::from_same, sheets::proofs::Entries::to_same))]
     fn ends(&self, j: usize) -> Ends {
-        let forward = FeedsForward { feeds: self.feeds };
-        match Move::from(j) {
-            Move::Forward(k) => forward.ends(k),
-            Move::Backward(k) => Reversed { map: forward }.ends(k),
+        let passed = Move::from(j);
+        // looked up once: with a look-up in each arm, the backward one by `Reversed`, the search misses its bar of speed
+        let ends = FeedsForward { feeds: self.feeds }.ends(passed.feed());
+        match passed {
+            Move::Forward(_) => ends,
+            Move::Backward(_) => Ends {
+                from: ends.to,
+                to: ends.from,
+            },
         }
     }
 
