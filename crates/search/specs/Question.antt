@@ -6,10 +6,10 @@ use Rattle.search.specs.Answers.{Takes}
 use Rattle.search.specs.Record.{reached}
 use Rattle.search.specs.Index.{Indexed}
 use Rattle.search.specs.Progress.{Progress, LeadsBack}
-use Rattle.search.specs.declared.index.Index.{Index}
-use Rattle.search.specs.declared.question.Question.{Question}
+use Rattle.search.specs.declared.Index.{Index}
+use Rattle.search.specs.declared.Question.{Question}
 use Rattle.search.specs.declared.reach.Reach.{Reach}
-use Rattle.search.specs.declared.work.Work.{Work}
+use Rattle.search.specs.declared.Work.{Work}
 
 -- a question of a map of type A, B being its trait's members
 module _ {A : _} {B : _} (q : Question A B) where

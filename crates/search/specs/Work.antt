@@ -1,6 +1,6 @@
 -- The queue of a search. Only the search's own code needs this.
 use Rattle.std.specs.Prelude.{ℕ, Option, slice_get}
-use Rattle.search.specs.declared.work.Work.{Work}
+use Rattle.search.specs.declared.Work.{Work}
 
 -- the step that is next in the queue
 abbrev pub next_step : Work → Option ℕ

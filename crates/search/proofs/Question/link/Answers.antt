@@ -1,6 +1,6 @@
 use Rattle.std.proofs.Common.{rules}
 use Rattle.search.proofs.Links.{linked}
-use Rattle.search.proofs.question.Question.link.Goals as goal
+use Rattle.search.proofs.Question.link.Goals as goal
 
 pub returns-then-contains : goal.returns-then-contains
 returns-then-contains g c =

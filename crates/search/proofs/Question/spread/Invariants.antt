@@ -1,6 +1,6 @@
 use Rattle.std.proofs.Common.{◌-◌}
 use Rattle.search.specs.Question.{IndexedFrom, Going}
-use Rattle.search.proofs.question.Question.spread.Given as goal
+use Rattle.search.proofs.Question.spread.Given as goal
 
 abbrev pub invariant-loop-k : goal.invariant-loop-k
 invariant-loop-k g l = IndexedFrom l.self l.index l.k

@@ -2,7 +2,7 @@ use Rattle.std.proofs.Common.{◌≡◌, true, sym, subst, arith}
 use Rattle.search.specs.Progress.{Known}
 use Rattle.search.specs.Question.{graph_of}
 use Rattle.search.proofs.Turns.{push, room, pass}
-use Rattle.search.proofs.question.Question.look.Goals as goal
+use Rattle.search.proofs.Question.look.Goals as goal
 
 pub push-requires-clause-room : goal.push-requires-clause-room
 push-requires-clause-room g c = room c.requires.progress c.if-is_fresh.ensures.fresh (sym c.ends.ensures.to) c.requires.leaves

@@ -1,7 +1,7 @@
 use Rattle.std.proofs.Common.{sym}
 use Rattle.std.proofs.lemmas.List.{reverse-append}
 use Rattle.search.proofs.Back.{back, is_along}
-use Rattle.search.proofs.question.Question.road_to.Goals as goal
+use Rattle.search.proofs.Question.road_to.Goals as goal
 
 pub loop-k-preserved : goal.loop-k-preserved
 loop-k-preserved g c = λ S.

@@ -2,8 +2,8 @@ use Rattle.std.proofs.Common.{sym, ◌∙◌, rules, arith}
 use Rattle.search.proofs.Links.{unindexed}
 use Rattle.search.proofs.Turns.{begin, place_in_hand}
 use Rattle.search.proofs.Outcome.{searched, whole}
-use Rattle.search.proofs.question.Question.spread.Goals as goal
-use Rattle.search.proofs.question.Question.spread.Goals.{in-Some+then-is_some_and, in_default}
+use Rattle.search.proofs.Question.spread.Goals as goal
+use Rattle.search.proofs.Question.spread.Goals.{in-Some+then-is_some_and, in_default}
 
 pub loop-k-init : goal.loop-k-init
 loop-k-init g c = rw (c.new-index.ensures.first, c.new-index.ensures.next) (unindexed _ _)

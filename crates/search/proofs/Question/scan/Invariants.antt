@@ -1,7 +1,7 @@
 use Rattle.std.proofs.Common.{◌≡◌, ◌-◌, ◌<◌, Some, IfSome, unwrap_or}
 use Rattle.search.specs.Work.{next_step}
 use Rattle.search.specs.Question.{graph_of, Going}
-use Rattle.search.proofs.question.Question.scan.Given as goal
+use Rattle.search.proofs.Question.scan.Given as goal
 
 abbrev pub invariant-loop-next : goal.invariant-loop-next
 invariant-loop-next g l = record {

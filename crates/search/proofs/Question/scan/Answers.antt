@@ -3,7 +3,7 @@ use Rattle.search.specs.Question.{graph_of}
 use Rattle.search.proofs.Inner.{below}
 use Rattle.search.proofs.Links.{leaves, after}
 use Rattle.search.proofs.Turns.{step_in_hand, place_in_hand, skip, turn}
-use Rattle.search.proofs.question.Question.scan.Goals as goal
+use Rattle.search.proofs.Question.scan.Goals as goal
 
 pub first-next-requires : goal.first-next-requires
 first-next-requires g c = step_in_hand c.requires.progress _ c.requires.next

@@ -1,7 +1,7 @@
 use Rattle.std.proofs.Common.{◌-◌, length, reverse}
 use Rattle.search.specs.Question.{graph_of, Searched}
 use Rattle.search.specs.Reading.{Reading}
-use Rattle.search.proofs.question.Question.road_to.Given as goal
+use Rattle.search.proofs.Question.road_to.Given as goal
 
 abbrev pub invariant-loop-k : goal.invariant-loop-k
 invariant-loop-k g l =
