@@ -36,7 +36,7 @@ pub fn add_up<W: Written>(text: &[u8]) -> Result<W, Refusal>
     Ok(total)
 }
 
-// The line `s TOTAL`.
+// The line `s TOTAL`, put together here since a formatter may fail and this cannot.
 fn total_line<W: Written>(total: W) -> Line
     requires { Between (flow_limit W.Price.kind) (W.Price.kind.means total) }
     ensures { result ≡ codes "s " ++ (digits_of W.Price.kind total ++ codes "\n") }

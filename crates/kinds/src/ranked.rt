@@ -94,7 +94,7 @@ impl Ranked {
     }
 }
 
-// Totals compare by the numbers that they are read as; a derive would compare the fields.
+// Totals compare by the numbers that they are read as, as sizes do; a derive would compare the fields.
 impl Ord for Ranked {
     ghost cmp = { on ranked_means int_cmp };
 
@@ -189,6 +189,7 @@ impl Written for Ranked {
             return None;
         }
         let t = self.read();
+        // the casts lose nothing: sizes are below 2^44
         Some(i64::from(t.rank) * SIZES as i64 + t.size as i64)
     }
 

@@ -34,8 +34,8 @@ impl Size {
         }
     }
 
-    // The size nearest to a number of MiB. Here and in `read` one number is compared with two ends, where the ranked kind has
-    // a rank and a size: a trait over both would be longer than they are.
+    // The size nearest to a number of MiB. Here and in `read` the ranked kind goes by a rank and a size, which not all contents
+    // give: a trait over both kinds would be longer than these bodies are.
     fn held(mib: i64) -> Size
         ensures means { size_means result ≡ nearest (reach_of size_largest) mib }
         ensures named { size_named result ≡ true }
@@ -47,7 +47,8 @@ impl Size {
 }
 
 // Sizes compare by the MiB that they are read as; a derive would compare the fields. The ranked kind has such impls of its
-// own: one for all kinds would be an impl of another crate's trait for a type parameter, which is not allowed.
+// own: one for all kinds would be an impl of another crate's trait for a type parameter, which is not allowed, and the gate
+// refuses impls by a macro.
 impl Ord for Size {
     ghost cmp = { on size_means int_cmp };
 

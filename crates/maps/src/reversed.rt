@@ -18,11 +18,7 @@ impl<M: Map> Map for Reversed<M> {
     }
 
     fn ends(&self, k: usize) -> Ends {
-        let ends = self.map.ends(k);
-        Ends {
-            from: ends.to,
-            to: ends.from,
-        }
+        self.map.ends(k).reversed()
     }
 
     fn is_passable(&self, k: usize) -> bool {

@@ -125,6 +125,7 @@ impl Refusal {
         line.put(b"c refused ");
         line.put_number(u64::from(self.number()));
         line.push(b' ');
+        // widens: there is no `From<usize>`
         line.put_number(self.place() as u64);
         line.push(b'\n');
         line

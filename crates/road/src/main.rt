@@ -50,6 +50,7 @@ fn show(rt: &HostRuntime, chart: Chart<Size>, flows: &[Size]) -> anyhow::Result<
 }
 
 fn main(rt: HostRuntime) -> anyhow::Result<()> {
+    // the five feeds of the tests' example too: a crate for them alone would be longer
     let feeds = [
         feed(1, 2, 2),
         feed(1, 3, 7),

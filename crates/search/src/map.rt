@@ -8,6 +8,19 @@ pub struct Ends {
     pub to: usize,
 }
 
+impl Ends {
+    // The ends of the arc that goes the other way.
+    pub fn reversed(self) -> Ends
+        ensures from { result.from ≡ self.to }
+        ensures to { result.to ≡ self.from }
+    {
+        Ends {
+            from: self.to,
+            to: self.from,
+        }
+    }
+}
+
 // A map of steps (a directed graph). Its arcs are numbered from 0 to `size` - 1.
 pub trait Map {
     // How many arcs it has.

@@ -3,7 +3,8 @@ ghost use Rattle.search.specs.Record.{parent_of, arc_to, reached};
 
 use crate::MOST_STEPS;
 
-// How a step was reached: it is the start, or by an arc (its parent arc).
+// How a step was reached: it is the start, or by an arc (its parent arc). An enum, since an `Option` within that of the table
+// would not say which none is which.
 #[derive(Clone, Copy)]
 pub(super) enum Parent {
     Start,

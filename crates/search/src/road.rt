@@ -1,4 +1,4 @@
-ghost use Rattle.std.specs.Prelude.{◌≡◌};
+ghost use Rattle.std.specs.Prelude.{◌≡◌, ◌≤◌, length};
 
 use crate::MOST_STEPS;
 use arrayvec::ArrayVec;
@@ -21,8 +21,9 @@ impl Model for Road {
 impl Road {
     // The numbers of its arcs.
     pub fn arcs(&self) -> &[u16]
-        ensures { result.now ≡ self.now }
+        ensures arcs { result.now ≡ self.now }
+        ensures few { length result.now ≤ 1024 }
     {
-        &self.arcs
+        self.arcs.as_slice()
     }
 }

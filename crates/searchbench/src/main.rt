@@ -99,6 +99,7 @@ struct Measure {
 
 fn time_search(rt: &HostRuntime, chart: Chart<Size>) -> anyhow::Result<Measure> {
     let start = Instant::now(rt)?;
+    // both casts widen: there is no `From<usize>`
     let missing = (0..TURNS)
         .filter(|_| matches!(chart.open_way(&[]), Err(NoRoad::Missing(_))))
         .count() as u128;
