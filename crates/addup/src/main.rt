@@ -15,7 +15,7 @@ fn main(rt: HostRuntime) -> anyhow::Result<()> {
             Ok(())
         }
         Err(refusal) => {
-            println!(rt; "{refusal}")?;
+            rt.stdout().write_all(refusal.line().as_bytes())?;
             Err(anyhow!("refused"))
         }
     }

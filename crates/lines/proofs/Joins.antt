@@ -1,7 +1,7 @@
 -- What is put on a line in parts is what is put on it at once.
-use Rattle.std.proofs.Common.{◌≡◌, ℕ, zero, suc, ◌+◌, ◌≤◌, List, [], ◌∷◌, ◌++◌, length, take, min, sym, refl, ap, ◌∙◌, arith}
+use Rattle.std.proofs.Common.{◌≡◌, ℕ, zero, suc, ◌+◌, ◌<◌, ◌≤◌, List, [], ◌∷◌, ◌++◌, length, take, min, sym, refl, ap, ◌∙◌, arith, length-append}
 use Rattle.std.proofs.Math.Seq.{take-append-add}
-use Rattle.std.proofs.lemmas.List.{append_assoc, append-nil, take_all, take_min}
+use Rattle.std.proofs.lemmas.List.{append_assoc, append-nil, length-take, take_all, take-append-le, take_min}
 use Rattle.lines.specs.Texts.{joined_on}
 
 take_front : (n : ℕ) (a b : List ℕ) → take n (take n a ++ b) ≡ take n (a ++ b)
@@ -11,6 +11,18 @@ take_front (suc n) (x ∷ a) b = ap (λ t. x ∷ t) (take_front n a b)
 
 pub joined_again : (a b c : List ℕ) → joined_on (joined_on a b) c ≡ joined_on a (b ++ c)
 joined_again a b c = take_front 64 (a ++ b) c ∙ ap (take 64) (append_assoc a b c)
+
+-- a line holds at most 64 bytes
+pub joined_few : (a more : List ℕ) → length (joined_on a more) ≤ 64
+joined_few a more = omega (arith, length-take 64 (a ++ more))
+
+-- one byte more on a line with room for it
+pub pushed : (a : List ℕ) (byte : ℕ) → length a < 64 → a ++ byte ∷ [] ≡ joined_on a (byte ∷ [])
+pushed a byte room = sym (take_all 64 (a ++ byte ∷ []) (omega (arith, length-append a (byte ∷ []))))
+
+-- on a full line nothing goes
+pub full : (a more : List ℕ) → length a ≡ 64 → a ≡ joined_on a more
+full a more all = sym (take-append-le 64 a more (omega arith) ∙ take_all 64 a (omega arith))
 
 -- as much of a text as a line has room for
 pub joined_room : (a b : List ℕ) (left : ℕ) → left + length a ≡ 64 → a ++ take (min left (length b)) b ≡ joined_on a b

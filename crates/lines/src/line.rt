@@ -30,22 +30,26 @@ impl Line {
 
     // More bytes. What the line has no room for is left out.
     pub fn put(&mut self, text: &[u8])
-        ensures { self.new ≡ joined_on self.old text.now }
+        ensures line { self.new ≡ joined_on self.old text.now }
+        ensures few { length self.old ≤ 64 }
     {
         let room = self.bytes.remaining_capacity().min(text.len());
         let _ = self.bytes.try_extend_from_slice(&text[..room]);
     }
 
     // One byte more.
+    #[tactic(auto, using(crate::proofs::Joins::pushed, crate::proofs::Joins::full))]
     pub fn push(&mut self, byte: u8)
-        ensures { self.new ≡ joined_on self.old (byte ∷ []) }
+        ensures line { self.new ≡ joined_on self.old (byte ∷ []) }
+        ensures few { length self.old ≤ 64 }
     {
-        self.put(&[byte]);
+        let _ = self.bytes.try_push(byte);
     }
 
     // A number in decimal digits, with no leading zero.
     pub fn put_number(&mut self, n: u64)
-        ensures { self.new ≡ joined_on self.old (decimal n) }
+        ensures line { self.new ≡ joined_on self.old (decimal n) }
+        ensures few { length self.old ≤ 64 }
     {
         self.put(Buffer::new().format(n).as_bytes());
     }
@@ -62,6 +66,7 @@ impl Line {
     pub fn copy_to(&self, buffer: &mut [u8]) -> Option<usize>
         ensures answer { result ≡ fitted self.now buffer.old }
         ensures buffer { buffer.new ≡ filled self.now buffer.old }
+        ensures few { length self.now ≤ 64 }
     {
         let bytes = self.as_bytes();
         let len = bytes.len();

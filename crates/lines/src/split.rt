@@ -2,8 +2,26 @@ ghost use Rattle.std.specs.Prelude.{◌≡◌, [], MatchOption};
 ghost use Rattle.std.specs.Iterator.{YieldsFirstBy, item_count};
 ghost use Rattle.lines.specs.Split.{FirstLine, lines_of};
 ghost use Rattle.lines.specs.Left.{lines_left};
+ghost use Rattle.memchr.specs.Find.{IsFirstByte, is_byte};
 
 use memchr::memchr;
+
+// How many bytes are looked at one by one: a line that is a number ends within them, and `memchr` tests 64 bytes before it
+// looks for the first.
+const NEAR: usize = 16;
+
+// The place of the first line feed.
+fn line_end(text: &[u8]) -> Option<usize>
+    ensures { IsFirstByte (is_byte 10) text.now result }
+{
+    let near = &text[..NEAR.min(text.len())];
+    for (i, byte) in near.iter().enumerate() {
+        if *byte == b'\n' {
+            return Some(i);
+        }
+    }
+    memchr(b'\n', text)
+}
 
 // The first line of a text without its line feed, and what follows; none where the text is empty.
 pub fn first_line(text: &[u8]) -> Option<(&[u8], &[u8])>
@@ -12,7 +30,7 @@ pub fn first_line(text: &[u8]) -> Option<(&[u8], &[u8])>
     if text.is_empty() {
         return None;
     }
-    match memchr(b'\n', text) {
+    match line_end(text) {
         Some(end) => Some((&text[..end], &text[end + 1..])),
         None => Some((text, &[])),
     }
