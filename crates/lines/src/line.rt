@@ -51,7 +51,11 @@ impl Line {
         ensures line { self.new ≡ joined_on self.old (decimal n) }
         ensures few { length self.old ≤ 64 }
     {
-        self.put(Buffer::new().format(n).as_bytes());
+        if n < 10 {
+            self.push(b'0' + n as u8);
+        } else {
+            self.put(Buffer::new().format(n).as_bytes());
+        }
     }
 
     // The bytes on the line.

@@ -1,8 +1,7 @@
-ghost use Rattle.std.specs.Prelude.{◌≡◌, [], MatchOption};
+ghost use Rattle.std.specs.Prelude.{◌≡◌, ◌<◌, [], length, MatchOption};
 ghost use Rattle.std.specs.Iterator.{YieldsFirstBy, item_count};
 ghost use Rattle.lines.specs.Split.{FirstLine, lines_of};
 ghost use Rattle.lines.specs.Left.{lines_left};
-ghost use Rattle.memchr.specs.Find.{IsFirstByte, is_byte};
 
 use memchr::memchr;
 
@@ -10,29 +9,33 @@ use memchr::memchr;
 // looks for the first.
 const NEAR: usize = 16;
 
-// The place of the first line feed.
-fn line_end(text: &[u8]) -> Option<usize>
-    ensures { IsFirstByte (is_byte 10) text.now result }
-{
-    let near = &text[..NEAR.min(text.len())];
-    for (i, byte) in near.iter().enumerate() {
-        if *byte == b'\n' {
-            return Some(i);
-        }
-    }
-    memchr(b'\n', text)
-}
-
 // The first line of a text without its line feed, and what follows; none where the text is empty.
 pub fn first_line(text: &[u8]) -> Option<(&[u8], &[u8])>
     ensures { MatchOption result (text.now ≡ []) (λ p. FirstLine text.now p.0.now p.1.now) }
 {
-    if text.is_empty() {
-        return None;
+    for (i, byte) in text.iter().enumerate() {
+        if *byte == b'\n' {
+            return Some((&text[..i], &text[i + 1..]));
+        }
+        if i == NEAR {
+            return Some(first_long_line(text));
+        }
     }
-    match line_end(text) {
-        Some(end) => Some((&text[..end], &text[end + 1..])),
-        None => Some((text, &[])),
+    if text.is_empty() {
+        None
+    } else {
+        Some((text, &[]))
+    }
+}
+
+// The same, for a text with some byte, by a search that is fast on long lines.
+fn first_long_line(text: &[u8]) -> (&[u8], &[u8])
+    requires { 0 < length text.now }
+    ensures { FirstLine text.now result.0.now result.1.now }
+{
+    match memchr(b'\n', text) {
+        Some(end) => (&text[..end], &text[end + 1..]),
+        None => (text, &[]),
     }
 }
 
