@@ -25,7 +25,8 @@ pub fn first_line(text: &[u8]) -> Option<(&[u8], &[u8])>
     Some(first_long_line(text))
 }
 
-// The same, for a text with some byte, by a search that is fast on long lines.
+// The same, for a text with some byte, by a search that is fast on long lines. Never inlined, so that `first_line` stays small.
+#[inline(never)]
 fn first_long_line(text: &[u8]) -> (&[u8], &[u8])
     requires { 0 < length text.now }
     ensures { FirstLine text.now result.0.now result.1.now }
