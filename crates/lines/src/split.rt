@@ -13,16 +13,19 @@ const NEAR: usize = 16;
 pub fn first_line(text: &[u8]) -> Option<(&[u8], &[u8])>
     ensures { MatchOption result (text.now ≡ []) (λ p. FirstLine text.now p.0.now p.1.now) }
 {
-    if text.is_empty() {
-        return None;
-    }
-    let near = &text[..NEAR.min(text.len())];
-    for (i, byte) in near.iter().enumerate() {
+    for (i, byte) in text.iter().enumerate() {
         if *byte == b'\n' {
             return Some((&text[..i], &text[i + 1..]));
         }
+        if i == NEAR {
+            return Some(first_long_line(text));
+        }
     }
-    Some(first_long_line(text))
+    if text.is_empty() {
+        None
+    } else {
+        Some((text, &[]))
+    }
 }
 
 // The same, for a text with some byte, by a search that is fast on long lines. Never inlined, so that `first_line` stays small.
