@@ -74,14 +74,17 @@ impl Parts {
 }
 
 impl Ranked {
-    // The parts of the number that a total is read as.
+    // The parts of the number that a total is read as: the upper end, where its fields give no number within the reach.
     fn read(self) -> Parts
         ensures means { as_one result.rank result.size ≡ ranked_means self }
         ensures within { Between (reach_of ranked_largest) (as_one result.rank result.size) }
     {
-        Parts::new(self.rank, self.size)
-            .filter(|number| (BOTTOM..=TOP).contains(number))
-            .unwrap_or(TOP)
+        let number = Parts::new(self.rank, self.size).unwrap_or(TOP);
+        if number < BOTTOM {
+            TOP
+        } else {
+            number.min(TOP)
+        }
     }
 
     // The total within the reach that is nearest to a number.
@@ -163,7 +166,7 @@ impl Price for Ranked {
     }
 
     fn is_price(self) -> bool {
-        (0..=LARGEST.rank).contains(&self.rank) && self.size <= LARGEST.size
+        self.size <= LARGEST.size && (0..=LARGEST.rank).contains(&self.rank)
     }
 }
 

@@ -119,7 +119,12 @@ impl Written for Size {
     ghost short = { Prim.search rules };
 
     fn whole(self) -> Option<i64> {
-        is_within_flow_limit(self).then_some(self.read())
+        // an if and no then, of which the compiler makes slower code
+        if is_within_flow_limit(self) {
+            Some(self.read())
+        } else {
+            None
+        }
     }
 
     // The size of n MiB, where that is a price.

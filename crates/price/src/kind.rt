@@ -1,4 +1,4 @@
-ghost use Rattle.std.specs.Prelude.{◌≡◌, true, pos, ◌+ℤ◌, ◌-ℤ◌, ◌<ℤ◌, Decides};
+ghost use Rattle.std.specs.Prelude.{◌≡◌, true, pos, ◌+ℤ◌, ◌-ℤ◌, ◌*ℤ◌, ◌<ℤ◌, Decides};
 ghost use Rattle.std.specs.Ordering.{int_cmp};
 ghost use Rattle.price.specs.Kind.{Between, PriceKind, Same, Sound, flow_limit, nearest, reach};
 
@@ -56,18 +56,24 @@ pub fn is_negative<P: Price>(total: P) -> bool
     total < P::zero()
 }
 
+// 8 times a total, or the end of the reach that is nearer to it. Always inline: else `flow_limit` is no constant to the compiler.
+#[inline(always)]
+fn eightfold<P: Price>(total: P) -> P
+    ensures means { P.kind.means result ≡ nearest (reach P.kind) (pos 8 *ℤ P.kind.means total) }
+    ensures named { P.kind.named result ≡ true }
+{
+    let twice = total.plus(total);
+    let four = twice.plus(twice);
+    four.plus(four)
+}
+
 // 4,096 times the largest price, by doubling.
-#[tactic(auto, using(crate::proofs::Limits::doubled))]
 pub fn flow_limit<P: Price>() -> P
     ensures means { P.kind.means result ≡ pos (flow_limit P.kind) }
     ensures named { P.kind.named result ≡ true }
 {
-    let mut total = P::largest();
-    // a loop and no fold, which is no plainer: its proof has to list the turns
-    for _i in 0..12u8 {
-        total = total.plus(total);
-    }
-    total
+    // no loop, which the compiler would run at each call
+    eightfold(eightfold(eightfold(eightfold(P::largest()))))
 }
 
 // Whether a total lies within the flow limit, on either side of 0. A test and no type of totals within it: sums leave it.
