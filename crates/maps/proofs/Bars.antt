@@ -14,7 +14,7 @@ with_parts : (ℕ → ℕ) → (ℕ → ℕ) → ℕ → Map ℕ
 with_parts from to count = record { from = from; to = to; passable = λ k. ltb k count }
 
 module _ {P : Type 0} (K : PriceKind P) (n s t : ℕ) (feeds : List (Feed P)) (bars : List ℕ) where
-  forward_same : feeds_forward (feeds_chart K feeds []) ≡ feeds_forward (chart_of K n s t feeds bars)
+  pub forward_same : feeds_forward (feeds_chart K feeds []) ≡ feeds_forward (chart_of K n s t feeds bars)
   unfolding with_parts
   forward_same =
       let C = feeds_chart K feeds [] in
