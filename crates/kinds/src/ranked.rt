@@ -79,12 +79,8 @@ impl Ranked {
         ensures means { as_one result.rank result.size ≡ ranked_means self }
         ensures within { Between (reach_of ranked_largest) (as_one result.rank result.size) }
     {
-        let number = Parts::new(self.rank, self.size).unwrap_or(TOP);
-        if number < BOTTOM {
-            TOP
-        } else {
-            number.min(TOP)
-        }
+        let parts = Parts::new(self.rank, self.size).unwrap_or(TOP);
+        if parts < BOTTOM { TOP } else { parts.min(TOP) }
     }
 
     // The total within the reach that is nearest to a number.
@@ -92,7 +88,12 @@ impl Ranked {
         ensures means { ranked_means result ≡ nearest (reach_of ranked_largest) (as_one number.rank number.size) }
         ensures named { ranked_named result ≡ true }
     {
-        let Parts { rank, size } = number.clamp(BOTTOM, TOP);
+        // no clamp, of which the compiler makes slower sums
+        let Parts { rank, size } = if number < BOTTOM {
+            BOTTOM
+        } else {
+            number.min(TOP)
+        };
         Ranked { rank, size }
     }
 }
