@@ -7,6 +7,7 @@ ghost use Rattle.arrayvec.specs.ArrayVec.{array_vec_len};
 ghost use Rattle.search.specs.Answers.{Answers, Explores, ShortestRoad, Takes};
 ghost use Rattle.search.specs.Index.{arc_in};
 ghost use Rattle.search.specs.Inside.{Step, is_step};
+ghost use Rattle.search.specs.Table.{Fits};
 ghost use Rattle.search.specs.Work.{next_step};
 ghost use Rattle.search.specs.declared.reach.Parent.TheVariants.{Start};
 
@@ -206,9 +207,7 @@ impl Work {
         ensures done { result.done ≡ 0 }
     {
         let mut work = Work {
-            reach: Reach {
-                parents: [None; MOST_STEPS],
-            },
+            reach: Reach::none(),
             queue: ArrayVec::new(),
             done: 0,
         };
@@ -219,12 +218,13 @@ impl Work {
     // Notes that a step was reached.
     fn push(&mut self, step: usize, parent: Parent)
         requires step { Step 1024 step }
+        requires fits { Fits parent }
         requires room { array_vec_len self.old.queue < 1024 }
         ensures parents { self.new.reach.parents ≡ slice_set self.old.reach.parents (step - 1) (Some parent) }
         ensures queue { self.new.queue.items ≡ self.old.queue.items ++ step ∷ [] }
         ensures done { self.new.done ≡ self.old.done }
     {
-        self.reach.parents[step - 1] = Some(parent);
+        self.reach.note(step, parent);
         // loses nothing, since steps are at most 1,024
         self.queue.push(step as u16);
     }
