@@ -45,11 +45,10 @@ pub fn search<M: Map>(map: &M, steps: usize, start: usize, goal: usize) -> Resul
         return Err(NoRoad::OutOfRange);
     }
     let reach = question.spread(Some(goal));
-    if reach.reaches(goal) {
-        Ok(question.road_to(&reach, goal))
-    } else {
-        Err(NoRoad::Missing(reach))
+    if !reach.reaches(goal) {
+        return Err(NoRoad::Missing(reach));
     }
+    Ok(question.road_to(&reach, goal))
 }
 
 // The steps of 1 to `steps` to which passable arcs lead from the start; none where there are too many steps or arcs, or
