@@ -161,7 +161,12 @@ impl<'a, M: Map> Question<'a, M> {
         for k in (0..self.arcs).rev() {
             self.link(&mut index, k);
         }
-        let mut work = Work::new(self.start);
+        let mut work = Work {
+            reach: Reach::none(),
+            queue: ArrayVec::new(),
+            done: 0,
+        };
+        work.push(self.start, Parent::Start);
         while let Some(step) = work.next_step() {
             if goal.is_some_and(|goal| work.reach.reaches(goal)) {
                 break;
@@ -198,22 +203,6 @@ struct Work {
 }
 
 impl Work {
-    // Only the start is reached.
-    fn new(start: usize) -> Self
-        requires { Step 1024 start }
-        ensures parents { result.reach.parents ≡ slice_set (replicate 1024 None) (start - 1) (Some Start) }
-        ensures queue { result.queue.items ≡ start ∷ [] }
-        ensures done { result.done ≡ 0 }
-    {
-        let mut work = Work {
-            reach: Reach::none(),
-            queue: ArrayVec::new(),
-            done: 0,
-        };
-        work.push(start, Parent::Start);
-        work
-    }
-
     // Notes that a step was reached.
     fn push(&mut self, step: usize, parent: Parent)
         requires step { Step 1024 step }

@@ -10,7 +10,7 @@ loop-k-init g c = rw (c.new-index.ensures.first, c.new-index.ensures.next) (unin
 pub loop-step-init : goal.loop-step-init
 loop-step-init g c =
     let taken = c.args.self.now.taken in
-    rw (c.new-work.ensures.parents, c.new-work.ensures.queue, c.new-work.ensures.done) (begin _ _ (taken.start.0, omega arith))
+    rw (c.push.ensures.parents, c.push.ensures.queue, c.push.ensures.done, c.none.ensures, c.new.ensures) (begin _ _ (taken.start.0, omega arith))
 
 pub loop-step-smaller : goal.loop-step-smaller
 loop-step-smaller g c =
