@@ -6,17 +6,31 @@ use Rattle.std.proofs.lemmas.Option.{same_Some, slice_get_within, gets}
 use Rattle.std.proofs.lemmas.Grind.{common_steps}
 use Rattle.std.proofs.lemmas.Bool.{true≢false, cases_lt, cases_eq, eq-eqb, ne_eqb, cond-true, cond-false}
 use Rattle.network.specs.Walk.{Map}
-use Rattle.search.specs.Inside.{Step}
+use Rattle.search.specs.Inside.{Step, inside}
 use Rattle.search.specs.Record.{parent_of}
 use Rattle.search.specs.Index.{Next}
 use Rattle.search.specs.Progress.{Known, Says, Seen, Fresh, Ordered, Progress}
 use Rattle.search.specs.declared.reach.Parent.{Parent}
 use Rattle.search.specs.declared.reach.Parent.TheVariants.{Start, Along}
-use Rattle.search.proofs.Parents.{entry_of, known_step, parent_same, parent_other, none_known, count_none, count_set}
+use Rattle.search.proofs.Parents.{entry_of, known_step, parent_same, parent_other, none_known, count_none, count_set, count_steps}
+use Rattle.search.proofs.Inner.{ends_inside}
 
 -- there are no more reached steps than entries
 pub filled : {M : Map ℕ} {s : ℕ} {parents : List (Option Parent)} {queue : List ℕ} → Ordered M s parents queue → length queue ≤ 1024
 filled {parents = parents} O = omega (arith, O.counted, O.table, count_by-le-length is_some parents)
+
+-- a search on the steps 1 to n reaches no others, and so no more than n
+module _ (arcs n : ℕ) (M : Map ℕ) {s : ℕ} {parents : List (Option Parent)} {queue : List ℕ} (O : Ordered (inside arcs n M) s parents queue) (start : Step n s) where
+  pub reached_within : (v : ℕ) → Known parents v → Step n v
+  reached_within v kn = by (parent_of parents v) kn (O.says v)
+    where
+      by : (p : Option Parent) → is_some p ≡ true → Says (inside arcs n M) s parents O.distance v p → Step n v
+      by None k y = absurd (true≢false (sym k))
+      by (Some Start) k y = subst (Step n) (sym y) start
+      by (Some (Along j)) k y = subst (Step n) y.1 (ends_inside arcs n M j y.0)
+
+  pub filled_within : length queue ≤ n
+  filled_within = omega (arith, O.counted, count_steps parents n (λ v kn. (reached_within v kn).1))
 
 -- d, but x at v
 put : (ℕ → ℕ) → ℕ → ℕ → ℕ → ℕ

@@ -1,4 +1,5 @@
 pub mod Inside
+pub mod Table
 pub mod Record
 pub mod Answers
 pub mod Index

@@ -7,6 +7,7 @@ ghost use Rattle.arrayvec.specs.ArrayVec.{array_vec_len};
 ghost use Rattle.search.specs.Answers.{Answers, Explores, ShortestRoad, Takes};
 ghost use Rattle.search.specs.Index.{arc_in};
 ghost use Rattle.search.specs.Inside.{Step, is_step};
+ghost use Rattle.search.specs.Table.{Fits};
 ghost use Rattle.search.specs.Work.{next_step};
 ghost use Rattle.search.specs.declared.reach.Parent.TheVariants.{Start};
 
@@ -44,11 +45,10 @@ pub fn search<M: Map>(map: &M, steps: usize, start: usize, goal: usize) -> Resul
         return Err(NoRoad::OutOfRange);
     }
     let reach = question.spread(Some(goal));
-    if reach.reaches(goal) {
-        Ok(question.road_to(&reach, goal))
-    } else {
-        Err(NoRoad::Missing(reach))
+    if !reach.reaches(goal) {
+        return Err(NoRoad::Missing(reach));
     }
+    Ok(question.road_to(&reach, goal))
 }
 
 // The steps of 1 to `steps` to which passable arcs lead from the start; none where there are too many steps or arcs, or
@@ -161,7 +161,12 @@ impl<'a, M: Map> Question<'a, M> {
         for k in (0..self.arcs).rev() {
             self.link(&mut index, k);
         }
-        let mut work = Work::new(self.start);
+        let mut work = Work {
+            reach: Reach::none(),
+            queue: ArrayVec::new(),
+            done: 0,
+        };
+        work.push(self.start, Parent::Start);
         while let Some(step) = work.next_step() {
             if goal.is_some_and(|goal| work.reach.reaches(goal)) {
                 break;
@@ -198,33 +203,16 @@ struct Work {
 }
 
 impl Work {
-    // Only the start is reached.
-    fn new(start: usize) -> Self
-        requires { Step 1024 start }
-        ensures parents { result.reach.parents ≡ slice_set (replicate 1024 None) (start - 1) (Some Start) }
-        ensures queue { result.queue.items ≡ start ∷ [] }
-        ensures done { result.done ≡ 0 }
-    {
-        let mut work = Work {
-            reach: Reach {
-                parents: [None; MOST_STEPS],
-            },
-            queue: ArrayVec::new(),
-            done: 0,
-        };
-        work.push(start, Parent::Start);
-        work
-    }
-
     // Notes that a step was reached.
     fn push(&mut self, step: usize, parent: Parent)
         requires step { Step 1024 step }
+        requires fits { Fits parent }
         requires room { array_vec_len self.old.queue < 1024 }
         ensures parents { self.new.reach.parents ≡ slice_set self.old.reach.parents (step - 1) (Some parent) }
         ensures queue { self.new.queue.items ≡ self.old.queue.items ++ step ∷ [] }
         ensures done { self.new.done ≡ self.old.done }
     {
-        self.reach.parents[step - 1] = Some(parent);
+        self.reach.note(step, parent);
         // loses nothing, since steps are at most 1,024
         self.queue.push(step as u16);
     }

@@ -4,10 +4,10 @@ use Rattle.search.proofs.Inner.{step_from}
 use Rattle.search.proofs.Outcome.{tells}
 use Rattle.search.proofs.search.Goals as goal
 
-pub returns-else-reaches : goal.returns-else-reaches
-returns-else-reaches g c =
+pub returns-then-not-reaches : goal.returns-then-not-reaches
+returns-then-not-reaches g c =
     let p = c.in-Some.ensures in
-    let none = sym c.if-reaches.ensures in
+    let none = sym c.if-not-reaches.ensures in
     let all = c.spread-reach.ensures.whole none in (
       p.takes,
       rw (← p.steps) (step_from _ _ (sym c.if-not-is_step.ensures)),
