@@ -99,14 +99,15 @@ impl<'a, M: Map> Question<'a, M> {
         (1..=self.steps).contains(&step)
     }
 
-    // Puts arc k into the index, before those above it. Here and below k is a plain number, as in the index.
+    // Puts arc k into the index, before those above it, where it leaves one of the steps. Here and below k is a plain number,
+    // as in the index.
     fn link(&self, index: &mut Index, k: usize)
         requires below { k < self.now.arcs }
         requires indexed { IndexedFrom self.now index.old (k + 1) }
         ensures { IndexedFrom self.now index.new k }
     {
         let from = self.map.ends(k).from;
-        if (1..=MOST_STEPS).contains(&from) {
+        if self.is_step(from) {
             index.put(from, k);
         }
     }
