@@ -29,6 +29,9 @@ module _ (arcs n : ℕ) (M : Map ℕ) {s : ℕ} {parents : List (Option Parent)}
       by (Some Start) k y = subst (Step n) (sym y) start
       by (Some (Along j)) k y = subst (Step n) y.1 (ends_inside arcs n M j y.0)
 
+  pub step_within : (h u : ℕ) → slice_get queue h ≡ Some u → Step n u
+  step_within h u here = reached_within u (O.queued h u here)
+
   pub filled_within : length queue ≤ n
   filled_within = omega (arith, O.counted, count_steps parents n (λ v kn. (reached_within v kn).1))
 

@@ -12,9 +12,9 @@ Next M arcs u i (Some r) = (i ≤ r) × (r < arcs) × (M.from r ≡ u) × ((k : 
 abbrev pub arc_in : ℕ → Option ℕ
 arc_in r = if nat_eq r 65535 then None else Some r
 
--- the tables hold the arcs from number i on
-pub record Indexed (M : Map ℕ) (arcs : ℕ) (first next : List ℕ) (i : ℕ) : Type 0 where
+-- the tables hold the arcs from number i on that leave one of the steps 1 to n
+pub record Indexed (M : Map ℕ) (arcs n : ℕ) (first next : List ℕ) (i : ℕ) : Type 0 where
   pub firsts : length first ≡ 1024
   pub nexts : length next ≡ 8192
-  pub starts : (u : ℕ) → Step 1024 u → Next M arcs u i (arc_in (slice_index first (u - 1)))
-  pub follows : (k : ℕ) → i ≤ k → k < arcs → Step 1024 (M.from k) → Next M arcs (M.from k) (k + 1) (arc_in (slice_index next k))
+  pub starts : (u : ℕ) → Step n u → Next M arcs u i (arc_in (slice_index first (u - 1)))
+  pub follows : (k : ℕ) → i ≤ k → k < arcs → Step n (M.from k) → Next M arcs (M.from k) (k + 1) (arc_in (slice_index next k))

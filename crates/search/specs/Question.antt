@@ -24,9 +24,9 @@ module _ {A : _} {B : _} (q : Question A B) where
     pub steps : q.steps ≡ n
     pub start : q.start ≡ s
 
-  -- the index holds its arcs from number i on
+  -- the index holds its arcs from number i on that leave a step
   abbrev pub IndexedFrom : Index → ℕ → Type 0
-  IndexedFrom index i = Indexed graph_of q.arcs index.first index.next i
+  IndexedFrom index i = Indexed graph_of q.arcs q.steps index.first index.next i
 
   -- a search at work: of the step that is next in the queue, the arcs below b are done
   abbrev pub Going : Work → ℕ → Type 0

@@ -11,7 +11,7 @@ pub record Parents : Type 0 where
 abbrev pub parent_in : ℕ → Option Parent
 parent_in entry = if nat_eq entry 65535 then None else if nat_eq entry 65534 then Some Start else Some (Along entry)
 
--- an entry can hold it
+-- an entry can say it: the arc is none of the two marks
 abbrev pub Fits : Parent → Type 0
 Fits Start = Unit {0}
-Fits (Along k) = k < 8192
+Fits (Along k) = k < 65534

@@ -1,7 +1,7 @@
 // One breadth-first search, on any map of steps: a road with the fewest arcs, or exactly the steps that are reached.
 #![tactic(auto)]
 
-ghost use Rattle.std.specs.Prelude.{◌≡◌, ◌+◌, ◌-◌, ◌<◌, ◌∷◌, [], ◌++◌, true, false, Some, None, IfSome, IsTrue, MatchOption, replicate, slice_index, slice_set};
+ghost use Rattle.std.specs.Prelude.{◌≡◌, ◌+◌, ◌-◌, ◌<◌, ◌∷◌, [], ◌++◌, true, false, Some, IfSome, IsTrue, MatchOption, replicate, slice_index, slice_set};
 ghost use Rattle.std.specs.Bool.{OnTrue, OnFalse};
 ghost use Rattle.arrayvec.specs.ArrayVec.{array_vec_len};
 ghost use Rattle.search.specs.Answers.{Answers, Explores, ShortestRoad, Takes};
@@ -9,7 +9,6 @@ ghost use Rattle.search.specs.Index.{arc_in};
 ghost use Rattle.search.specs.Inside.{Step, is_step};
 ghost use Rattle.search.specs.Table.{Fits};
 ghost use Rattle.search.specs.Work.{next_step};
-ghost use Rattle.search.specs.declared.reach.Parent.TheVariants.{Start};
 
 use self::map::Map;
 use self::reach::{Parent, Reach};
@@ -99,14 +98,15 @@ impl<'a, M: Map> Question<'a, M> {
         (1..=self.steps).contains(&step)
     }
 
-    // Puts arc k into the index, before those above it. Here and below k is a plain number, as in the index.
+    // Puts arc k into the index, before those above it, where it leaves one of the steps. Here and below k is a plain number,
+    // as in the index.
     fn link(&self, index: &mut Index, k: usize)
         requires below { k < self.now.arcs }
         requires indexed { IndexedFrom self.now index.old (k + 1) }
         ensures { IndexedFrom self.now index.new k }
     {
         let from = self.map.ends(k).from;
-        if (1..=MOST_STEPS).contains(&from) {
+        if self.is_step(from) {
             index.put(from, k);
         }
     }

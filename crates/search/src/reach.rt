@@ -14,8 +14,8 @@ pub(super) enum Parent {
     Along(u16),
 }
 
-// The entry of a step that was not reached, and that of the start; the others hold their parent arc. A table of
-// `Option<Parent>` has 6 bytes for each step in place of 2.
+// The entry of a step that was not reached, and that of the start; any other is the number of the parent arc. An
+// `Option<Parent>` takes 6 bytes in place of 2: with a table of them a search of the smallest map took half as long again.
 const NONE: u16 = u16::MAX;
 
 const START: u16 = u16::MAX - 1;

@@ -2,7 +2,7 @@ use Rattle.std.proofs.Common.{◌+◌, refl, ◌∙◌, arith}
 use Rattle.search.specs.Question.{graph_of}
 use Rattle.search.proofs.Inner.{below}
 use Rattle.search.proofs.Links.{leaves, after}
-use Rattle.search.proofs.Turns.{step_in_hand, place_in_hand, skip, turn}
+use Rattle.search.proofs.Turns.{step_in_hand, step_within, place_in_hand, skip, turn}
 use Rattle.search.proofs.Question.scan.Goals as goal
 
 pub first-next-requires : goal.first-next-requires
@@ -11,7 +11,8 @@ first-next-requires g c = step_in_hand c.requires.progress _ c.requires.next
 pub loop-next-init : goal.loop-next-init
 loop-next-init g c =
     let q = c.args.self.now in
-    let first = c.requires.indexed.starts c.args.step (step_in_hand c.requires.progress _ c.requires.next) in
+    let is = step_within q.arcs q.steps (g.M.Map.graph q.map.now) c.requires.progress.state q.taken.start _ _ c.requires.next in
+    let first = c.requires.indexed.starts c.args.step is in
     rw c.first-next.ensures (record {
       done = refl;
       at = c.requires.next;
@@ -24,7 +25,8 @@ loop-next-preserved g c =
     let q = c.args.self.now in
     let inv = c.loop-next.invariant in
     let here = rw c.in-Some.is at inv.leaves in
-    let next = after c.requires.indexed c.args.step c.in-Some.k here.0 here.1 (step_in_hand inv.going _ inv.at) in
+    let is = step_within q.arcs q.steps (g.M.Map.graph q.map.now) inv.going.state q.taken.start _ _ inv.at in
+    let next = after c.requires.indexed c.args.step c.in-Some.k here.0 here.1 is in
     let at = c.look.ensures.next ∙ inv.at in
     rw c.after-next.ensures (record {
       done = c.look.ensures.done ∙ inv.done;

@@ -5,7 +5,7 @@ use Rattle.search.proofs.Outcome.{searched, whole}
 use Rattle.search.proofs.Question.spread.Goals as goal
 
 pub loop-k-init : goal.loop-k-init
-loop-k-init g c = rw (c.new-index.ensures.first, c.new-index.ensures.next) (unindexed _ _)
+loop-k-init g c = rw (c.new-index.ensures.first, c.new-index.ensures.next) (unindexed _ _ _ c.args.self.now.taken.few_steps)
 
 pub loop-step-init : goal.loop-step-init
 loop-step-init g c =
