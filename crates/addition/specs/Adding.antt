@@ -4,6 +4,7 @@ use Rattle.std.specs.Str.Parse.{digits_value}
 use Rattle.std.specs.List.{AllByRecursion}
 use Rattle.lines.specs.Numbers.{is_number}
 use Rattle.lines.specs.Split.{lines_of}
+use Rattle.lines.specs.Texts.{LineText}
 use Rattle.price.specs.Kind.{PriceKind}
 use Rattle.price.specs.WrittenKind.{IsPriceOf, digits_of}
 use Rattle.refusal.specs.declared.Refusal.{Refusal}
@@ -37,6 +38,6 @@ AddsUp K text (Ok total) = Adds K (lines_of text) total
 AddsUp K text (Err e) = Refuses K (lines_of text) e
 
 -- the answer is the line of what the text adds up to, or the refusal
-abbrev pub Answers : {P : Type 0} → PriceKind P → List ℕ → Result (List ℕ) Refusal → Type 0
-Answers K text (Ok line) = (total : _) × Adds K (lines_of text) total × (line ≡ codes "s " ++ (digits_of K total ++ codes "\n"))
+abbrev pub Answers : {P : Type 0} → PriceKind P → List ℕ → Result LineText Refusal → Type 0
+Answers K text (Ok line) = (total : _) × Adds K (lines_of text) total × (line.bytes ≡ codes "s " ++ (digits_of K total ++ codes "\n"))
 Answers K text (Err e) = Refuses K (lines_of text) e

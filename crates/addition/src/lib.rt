@@ -1,6 +1,6 @@
 #![tactic(auto)]
 
-ghost use Rattle.std.specs.Prelude.{◌≡◌, ◌≤◌, ◌++◌, length, codes, IfOk, MatchOption};
+ghost use Rattle.std.specs.Prelude.{◌≡◌, ◌++◌, codes, MatchOption};
 ghost use Rattle.price.specs.Kind.{Between, flow_limit};
 ghost use Rattle.price.specs.WrittenKind.{digits_of};
 ghost use Rattle.addition.specs.Adding.{AddsUp, Answers, Priced, Writes};
@@ -39,8 +39,7 @@ pub fn add_up<W: Written>(text: &[u8]) -> Result<W, Refusal>
 // The line `s TOTAL`, put together here since a formatter may fail and this cannot.
 fn total_line<W: Written>(total: W) -> Line
     requires { Between (flow_limit W.Price.kind) (W.Price.kind.means total) }
-    ensures line { result ≡ codes "s " ++ (digits_of W.Price.kind total ++ codes "\n") }
-    ensures few { length result ≤ 64 }
+    ensures { result.bytes ≡ codes "s " ++ (digits_of W.Price.kind total ++ codes "\n") }
 {
     let mut line = Line::new();
     line.put(b"s ");
@@ -51,8 +50,7 @@ fn total_line<W: Written>(total: W) -> Line
 
 // What the prices of a text add up to, as a line to print; or why there is no such line.
 pub fn answer_text<W: Written>(text: &[u8]) -> Result<Line, Refusal>
-    ensures answer { Answers W.Price.kind text.now result }
-    ensures few { IfOk result (λ line. length line ≤ 64) }
+    ensures { Answers W.Price.kind text.now result }
 {
     let total = add_up::<W>(text)?;
     Ok(total_line(total))

@@ -1,8 +1,10 @@
 -- What is put on a line in parts is what is put on it at once.
 use Rattle.std.proofs.Common.{◌≡◌, ℕ, zero, suc, ◌+◌, ◌<◌, ◌≤◌, List, [], ◌∷◌, ◌++◌, length, take, min, sym, refl, ap, ◌∙◌, arith, length-append}
+use Rattle.std.specs.Coded.{le_prop}
+use mathlib.Core.HLevel.{is_prop→PathP}
 use Rattle.std.proofs.Math.Seq.{take-append-add}
-use Rattle.std.proofs.lemmas.List.{append_assoc, append-nil, length-take, take_all, take-append-le, take_min}
-use Rattle.lines.specs.Texts.{joined_on}
+use Rattle.std.proofs.lemmas.List.{append_assoc, append-nil, take_all, take-append-le, take_min}
+use Rattle.lines.specs.Texts.{LineText, joined_on}
 
 take_front : (n : ℕ) (a b : List ℕ) → take n (take n a ++ b) ≡ take n (a ++ b)
 take_front zero a b = refl
@@ -12,9 +14,9 @@ take_front (suc n) (x ∷ a) b = ap (λ t. x ∷ t) (take_front n a b)
 pub joined_again : (a b c : List ℕ) → joined_on (joined_on a b) c ≡ joined_on a (b ++ c)
 joined_again a b c = take_front 64 (a ++ b) c ∙ ap (take 64) (append_assoc a b c)
 
--- a line holds at most 64 bytes
-pub joined_few : (a more : List ℕ) → length (joined_on a more) ≤ 64
-joined_few a more = omega (arith, length-take 64 (a ++ more))
+-- lines with the same bytes are the same
+pub same_line : (s t : LineText) → s.bytes ≡ t.bytes → s ≡ t
+same_line s t e = λ i. record { bytes = e i; few = is_prop→PathP (λ j. length (e j) ≤ 64) (λ j. le_prop) s.few t.few i }
 
 -- one byte more on a line with room for it
 pub pushed : (a : List ℕ) (byte : ℕ) → length a < 64 → a ++ byte ∷ [] ≡ joined_on a (byte ∷ [])

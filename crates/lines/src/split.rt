@@ -5,8 +5,8 @@ ghost use Rattle.lines.specs.Left.{lines_left};
 
 use memchr::memchr;
 
-// How many bytes are looked at one by one: a line that is a number ends within them, and `memchr` tests 64 bytes before it
-// looks for the first.
+// The last place at which a line feed is looked for byte by byte. A line that is a number ends before it, and `memchr` tests
+// 64 bytes before it looks for the first.
 const NEAR: usize = 16;
 
 // The first line of a text without its line feed, and what follows; none where the text is empty.

@@ -22,7 +22,7 @@ pub trait Written: Price {
     // beyond the limit the answer is none and the line stays.
     fn put_digits(self, line: &mut Line) -> Option<()>
         ensures served { IsSome result ↔ Between (flow_limit Self.Price.kind) (Self.Price.kind.means self) }
-        ensures line { line.new ≡ (if is_some result then joined_on line.old (digits_of Self.Price.kind self) else line.old) }
+        ensures line { line.new.bytes ≡ (if is_some result then joined_on line.old.bytes (digits_of Self.Price.kind self) else line.old.bytes) }
     {
         line.put_number(self.whole()?.unsigned_abs());
         Some(())

@@ -1,6 +1,6 @@
 #![tactic(auto)]
 
-ghost use Rattle.std.specs.Prelude.{◌≡◌, ◌≤◌, length, Some};
+ghost use Rattle.std.specs.Prelude.{◌≡◌, Some};
 ghost use Rattle.std.specs.Option.{ok_or};
 ghost use Rattle.lines.specs.Buffers.{filled, fitted};
 ghost use Rattle.refusal.specs.Numbered.{number_of, place_of, refusal_text, refusal_words};
@@ -119,8 +119,7 @@ impl Refusal {
     // The line that tells the refusal: `c refused NUMBER PLACE`. Put together here and not by `Display`, since a formatter may
     // fail and this cannot.
     pub fn line(self) -> Line
-        ensures line { result ≡ refusal_text self }
-        ensures few { length result ≤ 64 }
+        ensures { result.bytes ≡ refusal_text self }
     {
         let mut line = Line::new();
         line.put(b"c refused ");
