@@ -14,7 +14,7 @@ take_front (suc n) (x ∷ a) b = ap (λ t. x ∷ t) (take_front n a b)
 pub joined_again : (a b c : List ℕ) → joined_on (joined_on a b) c ≡ joined_on a (b ++ c)
 joined_again a b c = take_front 64 (a ++ b) c ∙ ap (take 64) (append_assoc a b c)
 
--- lines with the same bytes are the same
+-- lines with the same bytes are the same; for callers whose contracts speak of a whole line
 pub same_line : (s t : LineText) → s.bytes ≡ t.bytes → s ≡ t
 same_line s t e = λ i. record { bytes = e i; few = is_prop→PathP (λ j. length (e j) ≤ 64) (λ j. le_prop) s.few t.few i }
 

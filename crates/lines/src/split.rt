@@ -5,8 +5,8 @@ ghost use Rattle.lines.specs.Left.{lines_left};
 
 use memchr::memchr;
 
-// The last place at which a line feed is looked for byte by byte. A line that is a number ends before it, and `memchr` tests
-// 64 bytes before it looks for the first.
+// The last place, counted from 0, at which a line feed is looked for byte by byte. A line that is a number ends before it,
+// and on a long text `memchr` tests a block of 64 bytes before it answers.
 const NEAR: usize = 16;
 
 // The first line of a text without its line feed, and what follows; none where the text is empty.
